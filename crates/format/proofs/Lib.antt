@@ -1,0 +1,5 @@
+pub mod Decided
+pub mod Number
+pub mod Guid
+pub mod Place
+pub mod Marked

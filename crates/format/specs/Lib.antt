@@ -1,0 +1,12 @@
+pub mod Answer
+pub mod Number
+pub mod Guid
+pub mod Text
+pub mod Header
+pub mod Prelogin
+pub mod Descriptor
+pub mod Scalar
+pub mod Plp
+pub mod Value
+pub mod Row
+pub mod Normal

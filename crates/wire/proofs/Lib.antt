@@ -1,0 +1,6 @@
+pub mod Laws
+pub mod Reading
+pub mod Writing
+pub mod GuidLaws
+pub mod Complement
+pub mod Floats

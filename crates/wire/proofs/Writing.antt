@@ -1,0 +1,17 @@
+-- What a writer answers and leaves in the room: the bytes where they fit, refusal 4 and the room as it was where they do not.
+-- Assumes nothing.
+use mathlib.Core.Path.{_≡_, refl, sym, ap, _∙_}
+use mathlib.Core.List.{List, _++_}
+use Prim.Native.Nat.{ℕ, _+_, _<_, _≤_}
+use lib.ListN.{length, drop}
+use borrow.Author.Tests.{lt-ltb, le-ltb}
+use Rattle.format.specs.Answer.{Answer, gives, refuses, room, fitted, wrote, roomAfter}
+
+module _ (bytes out : List ℕ) where
+  pub no-room : length out < length bytes → (refuses room ≡ wrote (fitted (gives bytes) (length out))) × (out ≡ roomAfter (fitted (gives bytes) (length out)) out)
+  unfolding fitted wrote roomAfter
+  no-room h = let t = lt-ltb (length out) (length bytes) h in (rw t, rw t)
+
+  pub has-room : (n : ℕ) → length bytes ≡ n → length bytes ≤ length out → (gives n ≡ wrote (fitted (gives bytes) (length out))) × (bytes ++ drop (length bytes) out ≡ roomAfter (fitted (gives bytes) (length out)) out)
+  unfolding fitted wrote roomAfter
+  has-room n e h = let t = le-ltb (length out) (length bytes) h in (rw (t, e), rw t)

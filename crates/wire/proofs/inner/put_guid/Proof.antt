@@ -1,0 +1,57 @@
+-- `wire::inner::put_guid` meets its contract: the four runs of stores are one run, the GUID's bytes in wire order. Assumes nothing.
+use mathlib.Core.Path.{_≡_, ap, _∙_}
+use mathlib.Core.List.{List}
+use Prim.Native.Nat.{ℕ, _+_, _/_}
+use lib.Seq.{sets}
+use Rattle.format.specs.Number.{lowBytes, highBytes}
+use borrow.Author.Needs.{needs}
+use Rattle.wire.proofs.GuidLaws.{guid-written}
+use Rattle.wire.proofs.inner.put_guid.Statement.{statement}
+use Rattle.wire.proofs.inner.put_guid.Tie as tie
+
+put-low-requires : tie.Need-put-low-requires
+put-low-requires c κs = search needs
+
+add-put-low : tie.Need-add-put-low
+add-put-low c = search needs
+
+put-low-requires-2 : tie.Need-put-low-requires-2
+put-low-requires-2 c κs = search needs
+
+add-put-low-2 : tie.Need-add-put-low-2
+add-put-low-2 c = search needs
+
+put-low-requires-3 : tie.Need-put-low-requires-3
+put-low-requires-3 c κs = search needs
+
+add-put-high : tie.Need-add-put-high
+add-put-high c = search needs
+
+put-high-requires : tie.Need-put-high-requires
+put-high-requires c κs = search needs
+
+same-length : tie.Need-same-length
+same-length c = search needs
+
+returns : tie.Need-returns
+returns c =
+    let a = c .before .before .before .before .before .before .before .before .before .before .before .before .before .before .before .before .before .args in
+    let low1 = c .before .before .before .before .before .before .before .before .before .before .before .before .before .before .put-low .ensures in
+    let low2 = c .before .before .before .before .before .before .before .before .before .before .put-low2 .ensures in
+    let low3 = c .before .before .before .before .before .before .put-low3 .ensures in
+    let high = c .before .before .put-high .ensures in
+    rw (high, low3, low2, low1) (guid-written (a .out .now) (a .at) (a .g))
+
+pub put-guid-spec : {M : Type 1} → statement M
+put-guid-spec =
+    tie.close
+    (tie.spec
+    put-low-requires
+    add-put-low
+    put-low-requires-2
+    add-put-low-2
+    put-low-requires-3
+    add-put-high
+    put-high-requires
+    same-length
+    returns)
