@@ -2,4 +2,8 @@ pub mod Decided
 pub mod Number
 pub mod Guid
 pub mod Place
+pub mod Plain
+pub mod Codec
+pub mod Scalar
+pub mod Chunks
 pub mod Marked
