@@ -165,10 +165,10 @@ module _ (s : List ℕ) where
       walked a w k x
       (λ e q. let l = ap length (join-ended (suc a) w e) in let r = ap (λ (y : Walk). y .sum) q in omega arith)
       (λ y e f q.
-        let m = moved s w y f in
-        let l = ap length (join-head a w y e f) in
-        let c = chunk-length w y m in
-        let d = length-append (take (y .at - (w .at + 4)) (drop (w .at + 4) s)) (joinFrom a s y) in
-        let r = join-sums a y (k + 1) x q in
-        omega arith)
+      let m = moved s w y f in
+      let l = ap length (join-head a w y e f) in
+      let c = chunk-length w y m in
+      let d = length-append (take (y .at - (w .at + 4)) (drop (w .at + 4) s)) (joinFrom a s y) in
+      let r = join-sums a y (k + 1) x q in
+      omega arith)
       h

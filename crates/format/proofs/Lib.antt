@@ -6,4 +6,5 @@ pub mod Plain
 pub mod Codec
 pub mod Scalar
 pub mod Chunks
+pub mod Plp
 pub mod Marked

@@ -53,14 +53,14 @@ bytes-took w s c n h =
     let q : w ≡ n = cc (p .1) in
     (e, q, rw (← e) (length-take-le w s (ltb-false (length s) w (p .0))))
 
-pub low-took : (w : ℕ) (s : List ℕ) (v n : ℕ) → Bytes s → readLow w s ≡ took v n → (w ≡ n) × (v < 256 ^ w)
+pub low-took : (w : ℕ) (s : List ℕ) (v n : ℕ) → readLow w s ≡ took v n → (w ≡ n) × (Bytes s → v < 256 ^ w)
 unfolding readLow
-low-took w s v n b h =
+low-took w s v n h =
     let p = past (ltb (length s) w) missing (took (lowNat (take w s)) w) v n h in
     let e : lowNat (take w s) ≡ v = cc (p .1) in
     let q : w ≡ n = cc (p .1) in
     let l : length (take w s) ≡ w = length-take-le w s (ltb-false (length s) w (p .0)) in
-    (q, rw (← e) (rw l at (low-lt (take w s) (bytes-take w s b))))
+    (q, λ b. rw (← e) (rw l at (low-lt (take w s) (bytes-take w s b))))
 
 pub byte-took : (s : List ℕ) (v n : ℕ) → readByte s ≡ took v n → n ≡ 1
 unfolding readByte
