@@ -7,4 +7,6 @@ pub mod Codec
 pub mod Scalar
 pub mod Chunks
 pub mod Plp
+pub mod Value
+pub mod Normal
 pub mod Marked
