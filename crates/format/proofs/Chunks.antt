@@ -4,19 +4,18 @@
 --   walk-ends:  an allowance of more heads than the input has bytes is never the reason that a walk stops.
 --   join-sums:  the joined content is as long as the sum says.
 -- Assumes nothing.
-use mathlib.Core.Path.{_≡_, refl, ap, sym, _∙_}
-use mathlib.Core.List.{List, [], _∷_, _++_}
-use mathlib.Core.Bool.{Bool, true, false, not}
+use mathlib.Core.Path.{_≡_, refl, ap}
+use mathlib.Core.List.{List, [], _++_}
+use mathlib.Core.Bool.{Bool, true, false}
 use Prim.Native.Nat.{ℕ, zero, suc, _+_, _-_, _<_, _≤_}
 use native.Mathlib.Omega.{arith}
 use lib.ListN.{length, take, drop, length-append, length-drop}
 use lib.Seq.{length-take-le}
 use lib.Dec.{ltb, eqb}
-use borrow.Author.Tests.{le-ltb, ltb-false, eqb-true, eqb-false, eq-eqb, ne-eqb}
-use Rattle.lists.specs.Pick.{pick}
+use borrow.Author.Tests.{le-ltb, ltb-false, eqb-true, eqb-false, ne-eqb}
 use Rattle.lists.proofs.Split.{split}
 use Rattle.format.specs.Answer.{Refusal, missing, long, sequence, Answer, gives, refuses, refuseIf}
-use Rattle.format.specs.Plp.{plpBound, Walk, aboveTotal, unlikeTotal, isOdd, endOf, chunkOf, lengthAt, takeHead, Walked, onHead, walkFrom, onJoin, joinFrom}
+use Rattle.format.specs.Plp.{plpBound, Walk, aboveTotal, unlikeTotal, isOdd, endOf, chunkOf, lengthAt, takeHead, Walked, onHead, walkFrom, joinFrom}
 
 -- ---- answers
 

@@ -7,6 +7,9 @@ pub mod Codec
 pub mod Scalar
 pub mod Chunks
 pub mod Plp
+pub mod FixedWidth
+pub mod LengthByte
+pub mod Content
 pub mod Value
 pub mod Normal
 pub mod Marked

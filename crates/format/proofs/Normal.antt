@@ -16,13 +16,13 @@
 use mathlib.Core.Path.{_≡_, refl, ap, sym, _∙_}
 use mathlib.Core.Logic.{_↔_}
 use mathlib.Core.List.{List, [], _∷_, _++_}
-use mathlib.Core.Bool.{Bool, false}
-use Prim.Native.Nat.{ℕ, _+_, _<_, _≤_}
+use mathlib.Core.Bool.{false}
+use Prim.Native.Nat.{ℕ, _≤_}
 use native.Mathlib.Omega.{arith}
 use lib.ListN.{length}
 use lib.Dec.{ltb}
 use borrow.Author.Tests.{ltb-false, le-ltb}
-use Rattle.format.specs.Answer.{Read, took, rule, stopIf, thenRead, mapRead}
+use Rattle.format.specs.Answer.{Read, took, rule, thenRead, mapRead}
 use Rattle.format.specs.Descriptor.{Column}
 use Rattle.format.specs.Value.{Value, readValue, encode}
 use Rattle.format.specs.Row.{maxColumns, consRead, readValues, readRow}

@@ -1,15 +1,15 @@
 -- The readers of a byte, of so many bytes and of a number: what they say of what was written, and what they took.
 -- Assumes nothing.
-use mathlib.Core.Path.{_≡_, refl, ap, sym, _∙_}
+use mathlib.Core.Path.{_≡_}
 use mathlib.Core.List.{List, [], _∷_, _++_}
 use mathlib.Core.Bool.{false}
-use Prim.Native.Nat.{ℕ, zero, suc, _+_, _^_, _<_, _≤_}
+use Prim.Native.Nat.{ℕ, zero, suc, _+_, _^_, _<_}
 use native.Mathlib.Omega.{arith}
-use lib.ListN.{length, getD, take, drop, length-append}
+use lib.ListN.{length, take, drop, length-append}
 use lib.Seq.{getD-drop, take-append-seam, length-take-le}
 use lib.Dec.{ltb}
 use borrow.Author.Tests.{le-ltb, ltb-false}
-use Rattle.format.specs.Answer.{Read, took, missing}
+use Rattle.format.specs.Answer.{took, missing}
 use Rattle.format.specs.Number.{lowNat, lowBytes, readBytes, readByte, readLow}
 use Rattle.format.proofs.Number.{Bytes, length-low, low-back, low-lt}
 use Rattle.format.proofs.Place.{past, no-took}

@@ -15,18 +15,18 @@ use native.Mathlib.Nat.{zero-add, suc-add}
 use native.Mathlib.Numerals.{add-one}
 use native.Mathlib.Omega.{arith}
 use lib.ListN.{length, take, drop, length-append, length-drop}
-use lib.Seq.{take-at, drop-at, drop-drop, take-append-seam, drop-append-seam}
+use lib.Seq.{drop-drop, take-append-seam, drop-append-seam}
 use lib.Dec.{ltb, eqb, lit<}
 use Rattle.lists.specs.Pick.{pick}
 use Rattle.lists.proofs.Split.{split}
-use Rattle.format.specs.Answer.{Answer, gives, refuses, Read, took, stops, long, stopIf}
+use Rattle.format.specs.Answer.{Answer, gives, refuses, Read, took, stops, long}
 use Rattle.format.specs.Number.{lowNat, lowBytes, readLow}
 use Rattle.format.specs.Plp.{plpBound, plpNull, plpUnknown, PlpHead, isNull, chunked, headOf, readPlpHead, Walk, isOdd, lengthAt, Walked, walkFrom, joinFrom, opened, joinedOf, readChunks, readPlp, chunkBytes, plpBytes}
-use Rattle.format.proofs.Number.{length-low, low-back}
+use Rattle.format.proofs.Number.{low-back}
 use Rattle.format.proofs.Place.{past, no-took, then-took, stays-low}
 use Rattle.format.proofs.Plain.{low-again, low-took}
 use Rattle.format.proofs.Codec.{Codec, then-again}
-use Rattle.format.proofs.Chunks.{atEnd, behind, Head, last, chunk, moved, walk-ended, join-ended, walk-head, join-head, walk-keeps, walk-ends, join-sums}
+use Rattle.format.proofs.Chunks.{atEnd, behind, Head, last, chunk, walk-ended, join-ended, walk-head, join-head, walk-keeps, walk-ends, join-sums}
 
 -- Content within a bound, of an even count where it is text; or null.
 abbrev pub Within : Bool → ℕ → Option (List ℕ) → Type 0

@@ -4,17 +4,16 @@
 --   short: it takes its width again, no byte more.
 -- A bit is its truth, whatever byte it came as; a float is its bits; a whole number is two's complement at its width; a GUID is its sixteen bytes.
 -- Assumes nothing.
-use mathlib.Core.Path.{_≡_, refl, ap, sym, _∙_}
+use mathlib.Core.Path.{_≡_, refl, ap, _∙_}
 use mathlib.Core.List.{List, [], _∷_, _++_}
-use mathlib.Core.Bool.{Bool, true, false, not}
-use Prim.Native.Nat.{ℕ, zero, suc, _+_, _/_, _-_, _^_, _<_, _≤_}
-use native.Mathlib.Nat.{add-zero}
+use mathlib.Core.Bool.{Bool, true, false}
+use Prim.Native.Nat.{ℕ, _+_, _/_, _^_, _<_, _≤_}
 use native.Mathlib.Omega.{arith}
-use lib.ListN.{length, take}
-use lib.Dec.{ltb, eqb}
+use lib.ListN.{length}
+use lib.Dec.{ltb}
 use lib.IntN.{ℤ, pos, negsuc}
 use borrow.Author.Tests.{ltb-true, ltb-false}
-use Rattle.format.specs.Answer.{Read, took, mapRead}
+use Rattle.format.specs.Answer.{took}
 use Rattle.format.specs.Number.{lowNat, lowBytes, signed, unsigned, readBytes}
 use Rattle.format.specs.Guid.{guidOrder}
 use Rattle.format.specs.Scalar.{Kind, Scalar, width, kindOf, scalarOf, scalarBytes, readScalar}
