@@ -6,7 +6,7 @@
 -- Assumes nothing.
 use mathlib.Core.Path.{_≡_, refl, ap}
 use mathlib.Core.List.{List, [], _++_}
-use mathlib.Core.Bool.{Bool, true, false}
+use mathlib.Core.Bool.{true, false}
 use Prim.Native.Nat.{ℕ, zero, suc, _+_, _-_, _<_, _≤_}
 use native.Mathlib.Omega.{arith}
 use lib.ListN.{length, take, drop, length-append, length-drop}
@@ -14,19 +14,9 @@ use lib.Seq.{length-take-le}
 use lib.Dec.{ltb, eqb}
 use borrow.Author.Tests.{le-ltb, ltb-false, eqb-true, eqb-false, ne-eqb}
 use Rattle.lists.proofs.Split.{split}
-use Rattle.format.specs.Answer.{Refusal, missing, long, sequence, Answer, gives, refuses, refuseIf}
+use Rattle.format.specs.Answer.{missing, long, sequence, Answer, gives, refuses}
 use Rattle.format.specs.Plp.{plpBound, Walk, aboveTotal, unlikeTotal, isOdd, endOf, chunkOf, lengthAt, takeHead, Walked, onHead, walkFrom, joinFrom}
-
--- ---- answers
-
-module _ {A : Type 0} where
-  pub no-gives : {P : Type 0} (e : Refusal) (x : A) → refuses e ≡ gives x → P
-  no-gives e x h = let z : _≡_ {A = ℕ} 0 1 = cc in absurd (omega arith)
-
-  -- past a check that did not refuse
-  pub passed : (b : Bool) (e : Refusal) (r : Answer A) (x : A) → refuseIf b e r ≡ gives x → (b ≡ false) × (r ≡ gives x)
-  passed true e r x h = no-gives e x h
-  passed false e r x h = (refl, h)
+use Rattle.format.proofs.Answer.{no-gives, passed}
 
 -- ---- one head
 

@@ -1,4 +1,5 @@
 pub mod Decided
+pub mod Answer
 pub mod Number
 pub mod Guid
 pub mod Place
@@ -12,4 +13,5 @@ pub mod LengthByte
 pub mod Content
 pub mod Value
 pub mod Normal
+pub mod Writing
 pub mod Marked

@@ -3,7 +3,7 @@
 use mathlib.Core.Path.{_≡_}
 use mathlib.Core.List.{List, [], _∷_, _++_}
 use mathlib.Core.Bool.{false}
-use Prim.Native.Nat.{ℕ, zero, suc, _+_, _^_, _<_}
+use Prim.Native.Nat.{ℕ, zero, suc, _+_, _/_, _^_, _<_}
 use native.Mathlib.Omega.{arith}
 use lib.ListN.{length, take, drop, length-append}
 use lib.Seq.{getD-drop, take-append-seam, length-take-le}
@@ -24,6 +24,16 @@ bytes-take zero s b i = omega arith
 bytes-take (suc n) [] b i = omega arith
 bytes-take (suc n) (x ∷ xs) b zero = b 0
 bytes-take (suc n) (x ∷ xs) b (suc i) = bytes-take n xs (λ j. b (suc j)) i
+
+pub bytes-append : (s t : List ℕ) → Bytes s → Bytes t → Bytes (s ++ t)
+bytes-append [] t b c i = c i
+bytes-append (x ∷ s) t b c zero = b 0
+bytes-append (x ∷ s) t b c (suc i) = bytes-append s t (λ j. b (suc j)) c i
+
+pub bytes-low : (w n : ℕ) → Bytes (lowBytes w n)
+bytes-low zero n i = omega arith
+bytes-low (suc w) n zero = omega arith
+bytes-low (suc w) n (suc i) = bytes-low w (n / 256) i
 
 -- ---- what was written, with anything behind it
 
