@@ -15,7 +15,7 @@ use lib.Dec.{ltb, eqb}
 use borrow.Author.Tests.{le-ltb, ltb-false, eqb-true, eqb-false, ne-eqb}
 use Rattle.lists.proofs.Split.{split}
 use Rattle.format.specs.Answer.{missing, long, sequence, Answer, gives, refuses}
-use Rattle.format.specs.Plp.{plpBound, Walk, aboveTotal, unlikeTotal, isOdd, endOf, chunkOf, lengthAt, takeHead, Walked, onHead, walkFrom, joinFrom}
+use Rattle.format.specs.Plp.{plpBound, Walk, aboveTotal, unlikeTotal, isOdd, endOf, chunkOf, lengthAt, takeHead, Walked, onHead, walkFrom, onJoin, joinFrom}
 use Rattle.format.proofs.Answer.{no-gives, passed}
 
 -- ---- one head
@@ -110,7 +110,7 @@ module _ (s : List ℕ) where
   unfolding walkFrom
   walk-head a w x k e h = rw (head-takes s w x h, e)
 
-  pub join-head : (a : ℕ) (w x : Walk) → w .ended ≡ false → Head s w x → joinFrom (suc a) s w ≡ take (x .at - (w .at + 4)) (drop (w .at + 4) s) ++ joinFrom a s x
+  pub join-head : (a : ℕ) (w x : Walk) → w .ended ≡ false → Head s w x → joinFrom (suc a) s w ≡ onJoin s w (joinFrom a s) (gives x)
   unfolding joinFrom
   join-head a w x e h = rw (head-takes s w x h, e)
 
@@ -144,8 +144,12 @@ module _ (s : List ℕ) where
 
   -- ---- the joined chunks
 
-  chunk-length : (w x : Walk) → Moved s w x → length (take (x .at - (w .at + 4)) (drop (w .at + 4) s)) ≡ x .at - (w .at + 4)
-  chunk-length w x m = length-take-le (x .at - (w .at + 4)) (drop (w .at + 4) s) (simp length-drop (omega arith))
+  -- a head adds as many bytes to the join as to the sum
+  head-sums : (w x : Walk) (go : Walk → List ℕ) → Moved s w x → w .sum + length (onJoin s w go (gives x)) ≡ x .sum + length (go x)
+  head-sums w x go m =
+      let c = take (x .at - (w .at + 4)) (drop (w .at + 4) s) in
+      let l : length c ≡ x .at - (w .at + 4) = length-take-le (x .at - (w .at + 4)) (drop (w .at + 4) s) (simp length-drop (omega arith)) in
+      omega (arith, l, length-append c (go x))
 
   pub join-sums : (a : ℕ) (w : Walk) (k : ℕ) (x : Walked) → walkFrom a s w k ≡ gives x → w .sum + length (joinFrom a s w) ≡ x .walk .sum
   unfolding walkFrom joinFrom
@@ -153,11 +157,5 @@ module _ (s : List ℕ) where
   join-sums (suc a) w k x h =
       walked a w k x
       (λ e q. let l = ap length (join-ended (suc a) w e) in let r = ap (λ (y : Walk). y .sum) q in omega arith)
-      (λ y e f q.
-      let m = moved s w y f in
-      let l = ap length (join-head a w y e f) in
-      let c = chunk-length w y m in
-      let d = length-append (take (y .at - (w .at + 4)) (drop (w .at + 4) s)) (joinFrom a s y) in
-      let r = join-sums a y (k + 1) x q in
-      omega arith)
+      (λ y e f q. omega (arith, ap length (join-head a w y e f), head-sums w y (joinFrom a s) (moved s w y f), join-sums a y (k + 1) x q))
       h

@@ -20,7 +20,7 @@ use Rattle.format.specs.Value.{Value, lengthByte, ofWidth, readWidth, re
 use Rattle.format.proofs.Number.{Bytes}
 use Rattle.format.proofs.Place.{past, no-took, map-took, then-took}
 use Rattle.format.proofs.Plain.{bytes-drop, byte-took}
-use Rattle.format.proofs.Codec.{Codec}
+use Rattle.format.proofs.Codec.{Codec, then-again}
 use Rattle.format.proofs.Scalar as Scalars
 
 pub data Listed (ks : List Kind) (declared : ℕ) : Value → Type 0 where
@@ -84,17 +84,20 @@ some-width Kind.f64 = refl
 some-width Kind.guid = refl
 
 module _ (n : ℕ) (ks : List Kind) (t : Told ks ks) where
-  listed-again : (v : Value) (rest : List ℕ) → Listed ks n v → readFamily n (some (lengthByte ks)) (encodeIn n (lengthByte ks) v ++ rest) ≡ took v (length (encodeIn n (lengthByte ks) v))
-  unfolding thenRead readByte
-  listed-again v rest null = refl
-  listed-again v rest (scalar x i l r) =
+  -- the width tells the kind back, and behind it the scalar reads
+  width-read : (x : Scalar) (rest : List ℕ) → isOneOf ks (kindOf x) ≡ true → width (kindOf x) ≤ n → Scalars.InRange x → readLengthByte ks n (width (kindOf x)) (scalarBytes x ++ rest) ≡ took (Value.scalar x) (length (scalarBytes x))
+  width-read x rest i l r =
       let k = kindOf x in
       let a : eqb (width k) 0 ≡ false = some-width k in
       let b : ofWidth ks (width k) ≡ some k = told ks ks k t i in
       let c : ltb n (width k) ≡ false = le-ltb n (width k) l in
-      let d = Scalars.codec k .again x rest (refl, r) in
-      let e : 1 + length (scalarBytes x) ≡ suc (length (scalarBytes x)) = omega arith in
-      rw (a, b, c, d, e)
+      rw (a, b, c, Scalars.codec k .again x rest (refl, r))
+
+  listed-again : (v : Value) (rest : List ℕ) → Listed ks n v → readFamily n (some (lengthByte ks)) (encodeIn n (lengthByte ks) v ++ rest) ≡ took v (length (encodeIn n (lengthByte ks) v))
+  unfolding readByte
+  listed-again v rest null = then-again readByte (readLengthByte ks n) (0 ∷ []) [] rest 0 Value.null (λ more. refl) refl
+  listed-again v rest (scalar x i l r) =
+      then-again readByte (readLengthByte ks n) (width (kindOf x) ∷ []) (scalarBytes x) rest (width (kindOf x)) (Value.scalar x) (λ more. refl) (width-read x rest i l r)
 
   -- what was read fits, and takes no more bytes again
   abbrev ListedTook : Value → ℕ → Type 0

@@ -112,7 +112,7 @@ known-walk text s c x h w j = rw (h, w, j)
 
 again : (text : Bool) (o : Option (List ℕ)) (rest : List ℕ) → Within text plpBound o → readPlp text (plpBytes o ++ rest) ≡ took o (length (plpBytes o))
 unfolding readPlp plpBytes
-again text none rest f = rw (null-head rest)
+again text none rest f = ap (readChunks text (plpBytes none ++ rest)) (null-head rest)
 again text (some []) rest f =
     let s = plpBytes (some []) ++ rest in
     let m : length s + 1 ≡ suc (length s) = add-one (length s) in
