@@ -1,10 +1,14 @@
--- What an answer that was given says of the checks before it: none of them refused.
+-- What an answer that was given says of the checks before it: none of them refused. And the clashes of constructors by which cases are shut out.
 -- Assumes nothing.
 use mathlib.Core.Path.{_≡_, refl}
 use mathlib.Core.Bool.{Bool, true, false}
 use Prim.Native.Nat.{ℕ}
 use native.Mathlib.Omega.{arith}
 use Rattle.format.specs.Answer.{Refusal, Answer, gives, refuses, refuseIf, andThen}
+
+-- a test does not say both
+pub no-truth : {P : Type 0} → false ≡ true → P
+no-truth h = let z : _≡_ {A = ℕ} 0 1 = cc in absurd (omega arith)
 
 module _ {A : Type 0} where
   -- a refusal gives nothing

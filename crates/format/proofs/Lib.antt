@@ -13,5 +13,6 @@ pub mod LengthByte
 pub mod Content
 pub mod Value
 pub mod Normal
+pub mod Spelled
 pub mod Writing
 pub mod Marked

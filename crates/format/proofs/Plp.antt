@@ -23,6 +23,7 @@ use Rattle.format.specs.Answer.{Answer, gives, refuses, Read, took, stop
 use Rattle.format.specs.Number.{lowNat, lowBytes, readLow}
 use Rattle.format.specs.Plp.{plpBound, plpNull, plpUnknown, PlpHead, isNull, chunked, headOf, readPlpHead, Walk, isOdd, lengthAt, Walked, walkFrom, joinFrom, opened, joinedOf, readChunks, readPlp, chunkBytes, plpBytes}
 use Rattle.format.proofs.Number.{low-back}
+use Rattle.format.proofs.Answer.{no-truth}
 use Rattle.format.proofs.Place.{past, no-took, then-took, stays-low}
 use Rattle.format.proofs.Plain.{low-again, low-took}
 use Rattle.format.proofs.Codec.{Codec, then-again}
@@ -106,9 +107,9 @@ unfolding readPlpHead
 unknown-head rest = then-again (readLow 8) headOf (lowBytes 8 plpUnknown) [] rest plpUnknown (chunked none) (λ more. low-again 8 plpUnknown more (lit< tt)) refl
 
 -- behind eight bytes that say an unknown length, a walk that ends and what it joins
-known-walk : (text : Bool) (s c : List ℕ) (x : Walked) → readPlpHead s ≡ took (chunked none) 8 → walkFrom (length s + 1) s (opened none text) 0 ≡ gives x → joinFrom (length s + 1) s (opened none text) ≡ c → readPlp text s ≡ took (some c) (x .walk .at)
+plp-joins : (text : Bool) (s c : List ℕ) (x : Walked) → readPlpHead s ≡ took (chunked none) 8 → walkFrom (length s + 1) s (opened none text) 0 ≡ gives x → joinFrom (length s + 1) s (opened none text) ≡ c → readPlp text s ≡ took (some c) (x .walk .at)
 unfolding readPlp
-known-walk text s c x h w j = rw (h, w, j)
+plp-joins text s c x h w j = rw (h, w, j)
 
 again : (text : Bool) (o : Option (List ℕ)) (rest : List ℕ) → Within text plpBound o → readPlp text (plpBytes o ++ rest) ≡ took o (length (plpBytes o))
 unfolding readPlp plpBytes
@@ -117,7 +118,7 @@ again text (some []) rest f =
     let s = plpBytes (some []) ++ rest in
     let m : length s + 1 ≡ suc (length s) = add-one (length s) in
     let o = f .1 in
-    known-walk text s [] (record { walk = atEnd (opened none text); taken = 1 }) (unknown-head (lowBytes 4 0 ++ rest))
+    plp-joins text s [] (record { walk = atEnd (opened none text); taken = 1 }) (unknown-head (lowBytes 4 0 ++ rest))
     (rw m (zero-walk s rest (length s) 0 (opened none text) refl refl o refl))
     (rw m (zero-join s rest (length s) 0 (opened none text) refl refl o refl))
 again text (some (b ∷ bs)) rest f =
@@ -127,7 +128,7 @@ again text (some (b ∷ bs)) rest f =
     let m : length s + 1 ≡ suc (suc (length s - 1)) = omega arith in
     let e : drop 8 s ≡ lowBytes 4 (length c) ++ (c ++ (z ++ rest)) = ap (λ (l : List ℕ). lowBytes 4 (length c) ++ l) (append-assoc c z rest) in
     let l : 8 + 4 + length c + 4 ≡ length (plpBytes (some c)) = omega (arith, length-append c z) in
-    known-walk text s c (record { walk = atEnd (behind (opened none text) (length c)); taken = 2 }) (unknown-head (drop 8 s))
+    plp-joins text s c (record { walk = atEnd (behind (opened none text) (length c)); taken = 2 }) (unknown-head (drop 8 s))
     (rw m (one-walk text s c rest (length s - 1) (omega arith) (f .0) (f .1) e))
     (rw m (one-join text s c rest (length s - 1) (omega arith) (f .0) (f .1) e))
     ∙ ap (took (some c)) l
@@ -157,7 +158,7 @@ record Paid (text : Bool) (w : Walk) : Type 0 where
 paid : (text : Bool) (s : List ℕ) (w x : Walk) → Head s w x → Paid text w → Paid text x
 paid text s w x (last i z u o) p = record { asked = p .asked; bound = p .bound; cost = omega (arith, p .cost); even = λ _. rw (← p .asked) o }
 paid text s w x (chunk n i l q b a) p =
-    record { asked = p .asked; bound = b; cost = omega (arith, p .cost, cost-more (w .sum) n); even = λ e. let z : _≡_ {A = ℕ} 0 1 = cc in absurd (omega arith) }
+    record { asked = p .asked; bound = b; cost = omega (arith, p .cost, cost-more (w .sum) n); even = no-truth }
 
 -- how a PLP value was read: as null, or as content
 pub data Taken (text : Bool) : Option (List ℕ) → ℕ → Type 0 where
@@ -190,7 +191,7 @@ module _ (text : Bool) (s : List ℕ) (o : Option (List ℕ)) (n : ℕ) where
       let q : x .walk .at ≡ n = cc in
       let l : length c ≡ x .walk .sum = omega (arith, join-sums s (length s + 1) w 0 x h) in
       let d : x .walk .ended ≡ true = walk-ends s (length s + 1) w 0 x i (omega arith) h in
-      let f = walk-keeps s (Paid text) (paid text s) (length s + 1) w 0 x h (record { asked = refl; bound = omega arith; cost = omega arith; even = λ e. let z : _≡_ {A = ℕ} 0 1 = cc in absurd (omega arith) }) in
+      let f = walk-keeps s (Paid text) (paid text s) (length s + 1) w 0 x h (record { asked = refl; bound = omega arith; cost = omega arith; even = no-truth }) in
       rw (← p, ← q) (content c (x .walk .at) (rw l (f .bound)) (rw l (f .even d)) (rw l (rw d at (f .cost))))
   chunks-took total i (refuses r) h e = no-took r o n e
 

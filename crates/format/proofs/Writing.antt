@@ -10,80 +10,29 @@
 -- Assumes nothing.
 use mathlib.Core.Path.{_≡_, refl}
 use mathlib.Core.List.{List, [], _∷_, _++_}
-use mathlib.Core.Bool.{Bool, true, false, not}
+use mathlib.Core.Bool.{true, false, not}
 use mathlib.Core.Option.{Option, none, some}
-use Prim.Native.Nat.{ℕ, _+_, _-_, _/_, _%_}
+use Prim.Native.Nat.{ℕ}
 use native.Mathlib.Omega.{arith}
-use lib.ListN.{length, length-append}
+use lib.ListN.{length}
 use lib.Dec.{ltb, eqb}
-use borrow.Author.Tests.{ltb-false, eqb-true, eq-eqb, not-false}
-use Rattle.lists.specs.Pick.{pick}
+use borrow.Author.Tests.{ltb-false, eqb-true, not-false}
 use Rattle.format.specs.Answer.{Answer, gives, refuses, took, missing, kind, long, rule, notCarried, andThen, inside, outside}
-use Rattle.format.specs.Number.{lowBytes}
-use Rattle.format.specs.Text.{char8, utf16, scalars, spelled, textIn}
+use Rattle.format.specs.Text.{textIn}
 use Rattle.format.specs.Descriptor.{Column, keepsRule}
 use Rattle.format.specs.Scalar.{Kind, kindOf, width}
-use Rattle.format.specs.Plp.{isOdd}
 use Rattle.format.specs.Value.{Value, Given, ContentKind, Family, fixedWidth, lengthByte, content, familyOf, contentBound, readValue, encodeIn, encode, kindFits, stringOf, valueOf, tooLong, bounded, writeFamily, writeValue}
 use Rattle.format.specs.Row.{maxColumns, readRow, joinTwo, writeValues, writeRow}
 use Rattle.format.specs.Normal.{encodeRow, normal}
-use Rattle.format.proofs.Number.{Bytes}
-use Rattle.format.proofs.Answer.{no-gives, passed, and-took}
-use Rattle.format.proofs.Plain.{bytes-append, bytes-low}
+use Rattle.format.proofs.Answer.{no-truth, no-gives, passed, and-took}
+use Rattle.format.proofs.Content.{Held, holds}
 use Rattle.format.proofs.Codec.{FitAll}
 use Rattle.format.proofs.Scalar.{InRange}
 use Rattle.format.proofs.FixedWidth as Fixeds
 use Rattle.format.proofs.LengthByte as Listeds
-use Rattle.format.proofs.Content.{Held, holds}
+use Rattle.format.proofs.Spelled.{text-even}
 use Rattle.format.proofs.Value.{Fits, Fit, column}
 use Rattle.format.proofs.Normal.{FitRow, reads, own}
-
--- ---- the content of a string: an even number of bytes
-
-module _ (c : ℕ) where
-  utf16-even : length (utf16 c) % 2 ≡ 0
-  unfolding utf16
-  utf16-even = go (ltb c 0x10000)
-    where
-      go : (b : Bool) → length (pick b (lowBytes 2 c) (lowBytes 2 (0xD800 + (c - 0x10000) / 1024) ++ lowBytes 2 (0xDC00 + (c - 0x10000) % 1024))) % 2 ≡ 0
-      go true = refl
-      go false = refl
-
-  utf16-bytes : Bytes (utf16 c)
-  unfolding utf16
-  utf16-bytes = go (ltb c 0x10000)
-    where
-      go : (b : Bool) → Bytes (pick b (lowBytes 2 c) (lowBytes 2 (0xD800 + (c - 0x10000) / 1024) ++ lowBytes 2 (0xDC00 + (c - 0x10000) % 1024)))
-      go true = bytes-low 2 c
-      go false =
-          bytes-append (lowBytes 2 (0xD800 + (c - 0x10000) / 1024)) (lowBytes 2 (0xDC00 + (c - 0x10000) % 1024))
-          (bytes-low 2 (0xD800 + (c - 0x10000) / 1024)) (bytes-low 2 (0xDC00 + (c - 0x10000) % 1024))
-
-spelled-even : (cs : List ℕ) → length (spelled utf16 cs) % 2 ≡ 0
-unfolding spelled
-spelled-even [] = refl
-spelled-even (c ∷ cs) = omega (arith, length-append (utf16 c) (spelled utf16 cs), utf16-even c, spelled-even cs)
-
-spelled-bytes : (cs : List ℕ) → Bytes (spelled utf16 cs)
-unfolding spelled
-spelled-bytes [] = λ i. omega arith
-spelled-bytes (c ∷ cs) = bytes-append (utf16 c) (spelled utf16 cs) (utf16-bytes c) (spelled-bytes cs)
-
--- text in gives what some scalar values are spelled as
-text-spelled : (s t : List ℕ) → textIn s ≡ gives t → (cs : List ℕ) × (spelled utf16 cs ≡ t)
-unfolding textIn
-text-spelled s t h =
-    let p = and-took (scalars char8 0 s) (λ cs. gives (spelled utf16 cs)) t h in
-    (p .0, cc (p .2))
-
-pub text-even : (s t : List ℕ) → textIn s ≡ gives t → isOdd true (length t) ≡ false
-text-even s t h =
-    let p = text-spelled s t h in
-    let q : eqb (length t % 2) 0 ≡ true = eq-eqb (length t % 2) 0 (rw (p .1) at (spelled-even (p .0))) in
-    rw q
-
-pub text-bytes : (s t : List ℕ) → textIn s ≡ gives t → Bytes t
-text-bytes s t h = let p = text-spelled s t h in rw (p .1) at (spelled-bytes (p .0))
 
 -- ---- a value
 
@@ -94,36 +43,33 @@ Ranged (Given.scalar x) = InRange x
 Ranged (Given.binary p) = Unit {0}
 Ranged (Given.string p) = Unit {0}
 
-no-kind : {P : Type 0} → false ≡ true → P
-no-kind h = let z : _≡_ {A = ℕ} 0 1 = cc in absurd (omega arith)
-
 -- what passes the checks 3, 1, 9 and 5 fits
 module _ (n : ℕ) (v : Value) where
   wrote-fixed : (k : Kind) (g : Given) → Ranged g → kindFits (fixedWidth k) g ≡ true → valueOf g ≡ gives v → Fixeds.Fixed k v
-  wrote-fixed k Given.null r h e = no-kind h
+  wrote-fixed k Given.null r h e = no-truth h
   wrote-fixed k (Given.scalar x) r h e =
       let p : Value.scalar x ≡ v = cc in
       rw (← p) (Fixeds.scalar x (Listeds.same-kind (kindOf x) k h, r))
-  wrote-fixed k (Given.binary p) r h e = no-kind h
-  wrote-fixed k (Given.string p) r h e = no-kind h
+  wrote-fixed k (Given.binary p) r h e = no-truth h
+  wrote-fixed k (Given.string p) r h e = no-truth h
 
   wrote-listed : (ks : List Kind) (g : Given) → Ranged g → kindFits (lengthByte ks) g ≡ true → valueOf g ≡ gives v → tooLong n (lengthByte ks) v ≡ false → Listeds.Listed ks n v
   wrote-listed ks Given.null r h e l = let p : Value.null ≡ v = cc in rw (← p) Listeds.null
   wrote-listed ks (Given.scalar x) r h e l =
       let p : Value.scalar x ≡ v = cc in
       rw (← p) (Listeds.scalar x h (ltb-false n (width (kindOf x)) (rw (← p) at l)) r)
-  wrote-listed ks (Given.binary p) r h e l = no-kind h
-  wrote-listed ks (Given.string p) r h e l = no-kind h
+  wrote-listed ks (Given.binary p) r h e l = no-truth h
+  wrote-listed ks (Given.string p) r h e l = no-truth h
 
   wrote-held : (k : ContentKind) (g : Given) → kindFits (content k) g ≡ true → valueOf g ≡ gives v → tooLong n (content k) v ≡ false → Held k n v
   wrote-held k Given.null h e l = let p : Value.null ≡ v = cc in rw (← p) (holds none tt)
-  wrote-held k (Given.scalar x) h e l = no-kind h
+  wrote-held k (Given.scalar x) h e l = no-truth h
   wrote-held ContentKind.binary (Given.binary (inside s)) h e l =
       let p : Value.binary s ≡ v = cc in
       rw (← p) (holds (some s) (ltb-false (contentBound n) (length s) (rw (← p) at l), refl))
   wrote-held ContentKind.binary (Given.binary outside) h e l = no-gives missing v e
-  wrote-held ContentKind.string (Given.binary p) h e l = no-kind h
-  wrote-held ContentKind.binary (Given.string p) h e l = no-kind h
+  wrote-held ContentKind.string (Given.binary p) h e l = no-truth h
+  wrote-held ContentKind.binary (Given.string p) h e l = no-truth h
   wrote-held ContentKind.string (Given.string outside) h e l = no-gives missing v e
   wrote-held ContentKind.string (Given.string (inside s)) h e l = go (textIn s) refl e
     where
