@@ -69,7 +69,7 @@ module _ (n : ℕ) (k : ContentKind) where
         let p = then-took (readLow 2) (readShort k n) s v m h in
         let w = p .0 in
         let r = drop (p .1) s in
-        let t = low-took 2 s w (p .1) (p .3) .0 in
+        let t = low-took 2 s w (p .1) (p .3) in
         let u = p .5 in
         split (eqb w shortNull)
         (λ _ q. let d : Value.null ≡ v = cc in (none, d, tt, omega arith))

@@ -11,7 +11,7 @@ use lib.Dec.{ltb}
 use borrow.Author.Tests.{le-ltb, ltb-false}
 use Rattle.format.specs.Answer.{took, missing}
 use Rattle.format.specs.Number.{lowNat, lowBytes, readBytes, readByte, readLow}
-use Rattle.format.proofs.Number.{Bytes, length-low, low-back, low-lt}
+use Rattle.format.proofs.Number.{Bytes, length-low, low-back}
 use Rattle.format.proofs.Place.{past, no-took}
 
 -- ---- parts of bytes are bytes
@@ -63,14 +63,9 @@ bytes-took w s c n h =
     let q : w ≡ n = cc (p .1) in
     (e, q, rw (← e) (length-take-le w s (ltb-false (length s) w (p .0))))
 
-pub low-took : (w : ℕ) (s : List ℕ) (v n : ℕ) → readLow w s ≡ took v n → (w ≡ n) × (Bytes s → v < 256 ^ w)
+pub low-took : (w : ℕ) (s : List ℕ) (v n : ℕ) → readLow w s ≡ took v n → n ≡ w
 unfolding readLow
-low-took w s v n h =
-    let p = past (ltb (length s) w) missing (took (lowNat (take w s)) w) v n h in
-    let e : lowNat (take w s) ≡ v = cc (p .1) in
-    let q : w ≡ n = cc (p .1) in
-    let l : length (take w s) ≡ w = length-take-le w s (ltb-false (length s) w (p .0)) in
-    (q, λ b. rw (← e) (rw l at (low-lt (take w s) (bytes-take w s b))))
+low-took w s v n h = let p = past (ltb (length s) w) missing (took (lowNat (take w s)) w) v n h in cc (p .1)
 
 pub byte-took : (s : List ℕ) (v n : ℕ) → readByte s ≡ took v n → n ≡ 1
 unfolding readByte

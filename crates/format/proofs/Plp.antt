@@ -176,7 +176,7 @@ eight : (s : List ℕ) (h : PlpHead) (n : ℕ) → readPlpHead s ≡ took h n �
 unfolding readPlpHead
 eight s h n e =
     let p = then-took (readLow 8) headOf s h n e in
-    let q = low-took 8 s (p .0) (p .1) (p .3) .0 in
+    let q = low-took 8 s (p .0) (p .1) (p .3) in
     let r = head-count (p .0) (drop (p .1) s) h (p .2) (p .4) in
     let l = stays-low 8 s (p .0) (p .1) (p .3) in
     let t = p .5 in
