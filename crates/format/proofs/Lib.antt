@@ -3,3 +3,7 @@ pub mod Number
 pub mod Guid
 pub mod Place
 pub mod Marked
+pub mod Scalars
+pub mod Utf8
+pub mod Utf16
+pub mod Text
