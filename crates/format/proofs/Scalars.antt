@@ -94,6 +94,10 @@ pub data Scalar (c : ℕ) : Type 0 where
   below : c < 0xD800 → Scalar c
   above : 0xDFFF < c → c ≤ 0x10FFFF → Scalar c
 
+pub scalar-last : (c : ℕ) → Scalar c → c ≤ 0x10FFFF
+scalar-last c (below h) = omega arith
+scalar-last c (above h i) = i
+
 -- every element of a list has a property
 abbrev pub Each : (ℕ → Type 0) → List ℕ → Type 0
 Each P [] = Unit {0}

@@ -29,7 +29,7 @@ Within k [] a = ⊥
 Within zero (r ∷ rs) a = (r .first ≤ a) × (a ≤ r .last)
 Within (suc k) (r ∷ rs) a = Within k rs a
 
-abbrev rowAt : ℕ → List Row → Row
+abbrev pub rowAt : ℕ → List Row → Row
 rowAt k [] = record { first = 0; last = 0; marker = 0; low = 0; high = 0; more = 0 }
 rowAt zero (r ∷ rs) = r
 rowAt (suc k) (r ∷ rs) = rowAt k rs
@@ -41,11 +41,11 @@ module _ (a : ℕ) (s : List ℕ) where
   chosen zero (r ∷ rs) p w = rw (between-in (r .first) (r .last) a (w .0) (w .1))
   chosen (suc k) (r ∷ rs) p w = rw (between-above (r .first) (r .last) a (p .0)) (chosen k rs (p .1) w)
 
-  first-ascii : a < 0x80 → char8 (a ∷ s) ≡ took a 1
+  pub first-ascii : a < 0x80 → char8 (a ∷ s) ≡ took a 1
   unfolding char8
   first-ascii h = rw (lt-ltb a 0x80 h)
 
-  first-other : 0x80 ≤ a → char8 (a ∷ s) ≡ among8 wellFormed a s
+  pub first-other : 0x80 ≤ a → char8 (a ∷ s) ≡ among8 wellFormed a s
   unfolding char8
   first-other h = rw (le-ltb a 0x80 h)
 
