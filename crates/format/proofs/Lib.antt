@@ -16,3 +16,7 @@ pub mod Normal
 pub mod Spelled
 pub mod Writing
 pub mod Marked
+pub mod Scalars
+pub mod Utf8
+pub mod Utf16
+pub mod Text

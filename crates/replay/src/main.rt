@@ -3,6 +3,8 @@ mod fields;
 mod numbers;
 mod packet;
 mod say;
+mod texts;
+mod types;
 
 use wire::Cursor;
 use wire::NumberRead;
@@ -12,6 +14,10 @@ use wire::Width;
 fn in_room(op: u8, frame: &[u8], room: &mut [u8]) {
     match op {
         0x21 => packet::header_write(frame, room),
+        0x22 => packet::prelogin_write(frame, room),
+        0x29 => types::type_write(frame, room),
+        0x48 => texts::text_in(frame, room),
+        0x49 => texts::text_out(frame, room),
         _ => say::bad(),
     }
 }
@@ -21,6 +27,7 @@ fn answer(frame: &[u8], room: &mut [u8]) {
     let op = fields::byte(frame, 0);
     match op {
         0x20 => packet::header_read(frame),
+        0x28 => types::type_read(frame),
         0x50 => numbers::guid(frame),
         0x51 => numbers::number(frame),
         _ => {

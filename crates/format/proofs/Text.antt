@@ -1,0 +1,146 @@
+-- UTF-8 to UTF-16LE and back is the identity, either way round: both are spellings of the same scalar values, and each spelling is read back and is what was
+-- read. Beside it, what UTF-16LE of a text is: an even number of bytes, at most twice as many as the UTF-8.
+-- Assumes nothing.
+use mathlib.Core.Path.{_≡_, refl, ap, sym, _∙_, subst}
+use mathlib.Core.List.{List, [], _∷_, _++_}
+use mathlib.Core.Bool.{Bool, true, false, not}
+use Prim.Native.Nat.{ℕ, zero, suc, _+_, _*_, _-_, _/_, _%_, _<_, _≤_}
+use native.Mathlib.Omega.{arith}
+use lib.ListN.{length, getD, take, drop, length-append}
+use lib.Seq.{getD-drop}
+use lib.Dec.{ltb, eqb}
+use borrow.Author.Tests.{eq-eqb, ne-eqb, eqb-true, not-false}
+use Rattle.lists.specs.Pick.{pick}
+use Rattle.lists.proofs.Split.{split}
+use Rattle.format.specs.Answer.{Answer, gives, refuses, Refusal, Read, sequence, refuseIf, andThen}
+use Rattle.format.specs.Number.{lowBytes}
+use Rattle.format.specs.Text.{char8, utf8, char16, utf16, scalars, spelled, textIn, textOut}
+use Rattle.format.proofs.Number.{Bytes}
+use Rattle.format.proofs.Scalars.{less, no-gives, converted, Form, Each, spelled-back, spelled-forth}
+use Rattle.format.proofs.Utf8.{utf8-one, utf8-two, utf8-three, utf8-four, char8-back, char8-forth}
+use Rattle.format.proofs.Utf16.{utf16-one, utf16-two, char16-back, char16-forth}
+
+-- ---- the two forms
+
+-- how many bytes a scalar value has in either form
+module _ (c : ℕ) where
+  pub utf8-length : (P : ℕ → Type 0) → (c < 0x80 → P 1) → (0x80 ≤ c → c < 0x800 → P 2) → (0x800 ≤ c → c < 0x10000 → P 3) → (0x10000 ≤ c → P 4) → P (length (utf8 c))
+  utf8-length P p q r s =
+      less c 0x80 (λ i. rw (utf8-one c i) (p i))
+      (λ i. less c 0x800 (λ j. rw (utf8-two c i j) (q i j))
+      (λ j. less c 0x10000 (λ k. rw (utf8-three c j k) (r j k))
+      (λ k. rw (utf8-four c k) (s k))))
+
+  pub utf16-length : (P : ℕ → Type 0) → (c < 0x10000 → P 2) → (0x10000 ≤ c → P 4) → P (length (utf16 c))
+  utf16-length P p q = less c 0x10000 (λ i. rw (utf16-one c i) (p i)) (λ i. rw (utf16-two c i) (q i))
+
+pub form8 : Form char8 utf8 (λ _. Unit {0})
+form8 = record {
+  rest = λ n s t. tt;
+  some = λ c. utf8-length c (λ n. 0 < n) (λ i. omega arith) (λ i j. omega arith) (λ i j. omega arith) (λ i. omega arith);
+  back = char8-back;
+  forth = λ s c n t h. char8-forth c n s h;
+}
+
+pub form16 : Form char16 utf16 Bytes
+form16 = record {
+  rest = λ n s b i. subst (λ (x : ℕ). x < 256) (sym (getD-drop n s i 0)) (b (n + i));
+  some = λ c. utf16-length c (λ n. 0 < n) (λ i. omega arith) (λ i. omega arith);
+  back = char16-back;
+  forth = λ s c n b h. char16-forth c n s b h;
+}
+
+-- the bytes of a text in UTF-16LE, against its UTF-8
+pub utf16-short : (c : ℕ) → length (utf16 c) ≤ 2 * length (utf8 c)
+utf16-short c =
+    utf16-length c (λ n. n ≤ 2 * length (utf8 c)) (λ i. omega (arith, form8 .some c))
+    (λ i. rw (utf8-four c i) (omega arith))
+
+pub utf8-short : (c : ℕ) → 2 * length (utf8 c) ≤ 3 * length (utf16 c)
+utf8-short c =
+    utf16-length c (λ n. 2 * length (utf8 c) ≤ 3 * n) (λ i. utf8-length c (λ n. 2 * n ≤ 6) (λ j. omega arith) (λ j k. omega arith) (λ j k. omega arith) (λ j. absurd (omega arith)))
+    (λ i. rw (utf8-four c i) (omega arith))
+
+-- ---- a text
+
+-- what a conversion gives, it spells of what it read
+pub converted-gives : (char : List ℕ → Read ℕ) (spell : ℕ → List ℕ) (s u : List ℕ) → converted char spell s ≡ gives u → (cs : List ℕ) × (scalars char 0 s ≡ gives cs) × (spelled spell cs ≡ u)
+converted-gives char spell s u h = go (scalars char 0 s) refl h
+  where
+    go : (a : Answer (List ℕ)) → scalars char 0 s ≡ a → andThen a (λ cs. gives (spelled spell cs)) ≡ gives u → (cs : List ℕ) × (scalars char 0 s ≡ gives cs) × (spelled spell cs ≡ u)
+    go (gives cs) e g = (cs, e, cc)
+    go (refuses e) q g = no-gives e u g
+
+pub in-gives : (s u : List ℕ) → textIn s ≡ gives u → converted char8 utf16 s ≡ gives u
+unfolding textIn
+in-gives s u h = h
+
+-- an odd count is refusal 8; an even one is converted
+pub out-even : (u : List ℕ) → length u % 2 ≡ 0 → textOut u ≡ converted char16 utf8 u
+unfolding textOut
+out-even u h = rw (eq-eqb (length u % 2) 0 h)
+
+pub out-odd : (u : List ℕ) → (length u % 2 ≡ 0 → ⊥) → textOut u ≡ refuses sequence
+unfolding textOut
+out-odd u h = rw (ne-eqb (length u % 2) 0 h)
+
+pub out-gives : (u s : List ℕ) → textOut u ≡ gives s → converted char16 utf8 u ≡ gives s
+unfolding textOut
+out-gives u s h = split (not (eqb (length u % 2) 0)) (λ e q. no-gives sequence s q) (λ e q. q) h
+
+spelled-even : (cs : List ℕ) → length (spelled utf16 cs) % 2 ≡ 0
+unfolding spelled
+spelled-even [] = refl
+spelled-even (c ∷ cs) =
+    rw (length-append (utf16 c) (spelled utf16 cs)) (utf16-length c (λ n. (n + length (spelled utf16 cs)) % 2 ≡ 0) (λ i. omega (arith, spelled-even cs)) (λ i. omega (arith, spelled-even cs)))
+
+spelled-short : (cs : List ℕ) → length (spelled utf16 cs) ≤ 2 * length (spelled utf8 cs)
+unfolding spelled
+spelled-short [] = omega arith
+spelled-short (c ∷ cs) =
+    omega (arith, length-append (utf16 c) (spelled utf16 cs), length-append (utf8 c) (spelled utf8 cs), utf16-short c, spelled-short cs)
+
+-- every element is a byte, said of each and of every place
+each-bytes : (l : List ℕ) → Each (λ b. b < 256) l → Bytes l
+each-bytes [] h i = omega arith
+each-bytes (b ∷ l) h zero = h .0
+each-bytes (b ∷ l) h (suc i) = each-bytes l (h .1) i
+
+each-append : (P : ℕ → Type 0) (l m : List ℕ) → Each P l → Each P m → Each P (l ++ m)
+each-append P [] m h k = k
+each-append P (b ∷ l) m h k = (h .0, each-append P l m (h .1) k)
+
+utf16-bytes : (c : ℕ) → Each (λ b. b < 256) (utf16 c)
+utf16-bytes c = less c 0x10000 (λ i. rw (utf16-one c i) (omega arith)) (λ i. rw (utf16-two c i) (omega arith))
+
+spelled-bytes : (cs : List ℕ) → Each (λ b. b < 256) (spelled utf16 cs)
+unfolding spelled
+spelled-bytes [] = tt
+spelled-bytes (c ∷ cs) = each-append (λ b. b < 256) (utf16 c) (spelled utf16 cs) (utf16-bytes c) (spelled-bytes cs)
+
+-- ---- the theorems
+
+pub in-then-out : (s u : List ℕ) → textIn s ≡ gives u → textOut u ≡ gives s
+in-then-out s u h =
+    let p = converted-gives char8 utf16 s u (in-gives s u h) in
+    let q = spelled-forth form8 s (p .0) tt (p .1) in
+    let e : length u % 2 ≡ 0 = rw (← p .2) (spelled-even (p .0)) in
+    out-even u e ∙ rw (← p .2, spelled-back form16 (p .0) (q .1), q .0)
+
+pub out-then-in : (u s : List ℕ) → Bytes u → textOut u ≡ gives s → textIn s ≡ gives u
+unfolding textIn
+out-then-in u s b h =
+    let p = converted-gives char16 utf8 u s (out-gives u s h) in
+    let q = spelled-forth form16 u (p .0) b (p .1) in
+    rw (← p .2, spelled-back form8 (p .0) (q .1), q .0)
+
+pub in-even : (s u : List ℕ) → textIn s ≡ gives u → length u % 2 ≡ 0
+in-even s u h = let p = converted-gives char8 utf16 s u (in-gives s u h) in rw (← p .2) (spelled-even (p .0))
+
+pub in-short : (s u : List ℕ) → textIn s ≡ gives u → length u ≤ 2 * length s
+in-short s u h =
+    let p = converted-gives char8 utf16 s u (in-gives s u h) in
+    omega (arith, ap length (p .2), ap length (spelled-forth form8 s (p .0) tt (p .1) .0), spelled-short (p .0))
+
+pub in-bytes : (s u : List ℕ) → textIn s ≡ gives u → Bytes u
+in-bytes s u h = let p = converted-gives char8 utf16 s u (in-gives s u h) in rw (p .2) at (each-bytes (spelled utf16 (p .0)) (spelled-bytes (p .0)))
