@@ -22,19 +22,26 @@ fn in_room(op: u8, frame: &[u8], room: &mut [u8]) {
     }
 }
 
-// One frame's answer, by its op's number.
-fn answer(frame: &[u8], room: &mut [u8]) {
-    let op = fields::byte(frame, 0);
+// An op without a room; false where it is none of these.
+fn without_room(op: u8, frame: &[u8]) -> bool {
     match op {
         0x20 => packet::header_read(frame),
         0x28 => types::type_read(frame),
         0x50 => numbers::guid(frame),
         0x51 => numbers::number(frame),
-        _ => {
-            let size = fields::size(frame, 1, room);
-            in_room(op, frame, &mut room[..size]);
-        }
+        _ => return false,
     }
+    true
+}
+
+// One frame's answer, by its op's number.
+fn answer(frame: &[u8], room: &mut [u8]) {
+    let op = fields::byte(frame, 0);
+    if without_room(op, frame) {
+        return;
+    }
+    let size = fields::size(frame, 1, room);
+    in_room(op, frame, &mut room[..size]);
 }
 
 // How many bytes the next frame has; none where the input has ended.

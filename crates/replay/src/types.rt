@@ -32,7 +32,10 @@ fn collation(frame: &[u8], at: usize) -> Collation {
         return Collation::None;
     }
     let info = fields::low(frame, fields::after(at, 12), Width::Four);
-    Collation::Of((info % 4294967296) as u32, fields::byte(frame, fields::after(at, 16)))
+    Collation::Of(
+        (info % 4294967296) as u32,
+        fields::byte(frame, fields::after(at, 16)),
+    )
 }
 
 fn type_id(frame: &[u8], at: usize) -> TypeId {
