@@ -128,7 +128,7 @@ fn name_fits(n: Name, names: &[u8], limit: u64) -> bool
 }
 
 // What is asked besides when the descriptor itself is written.
-pub fn names_fit(n: Schema, names: &[u8]) -> bool
+pub(crate) fn names_fit(n: Schema, names: &[u8]) -> bool
     ensures { λ r. ⌜ r ≡ namesFit (schemaTold (now (names .entry)) n) ⌝ }
 {
     match n {
