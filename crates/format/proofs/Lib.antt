@@ -16,3 +16,4 @@ pub mod Normal
 pub mod Spelled
 pub mod Writing
 pub mod Marked
+pub mod Descriptor
