@@ -16,4 +16,6 @@ pub mod Normal
 pub mod Spelled
 pub mod Writing
 pub mod Marked
+pub mod DescriptorForm
+pub mod DescriptorRead
 pub mod Descriptor

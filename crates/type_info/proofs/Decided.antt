@@ -5,15 +5,14 @@ use mathlib.Core.Path.{_≡_, refl, sym, ap, _∙_}
 use mathlib.Core.List.{List}
 use mathlib.Core.Bool.{Bool}
 use mathlib.Core.Option.{Option, none, some}
-use Prim.Native.Nat.{ℕ, _+_, _*_, _≤_}
+use Prim.Native.Nat.{ℕ, _+_, _*_}
 use native.Mathlib.Omega.{arith}
 use lib.ListN.{length}
-use Rattle.format.specs.Answer.{Refusal, Answer, gives, refuses, Read, took, stops, readAt, fitted, wrote, roomAfter, inside}
+use Rattle.format.specs.Answer.{Answer, gives, refuses, readAt, fitted, wrote, roomAfter, inside}
 use Rattle.format.specs.Descriptor as D
 use Rattle.format.specs.Descriptor.{typeOf, typeByte, readColumn, writeColumn, keepsRule}
 use Rattle.format.proofs.Decided.{Undoes, decided, one-room}
 use Rattle.wire.specs.declared.Wrote.{Wrote}
-use Rattle.wire.specs.declared.Refusal as W
 use Rattle.wire.specs.declared.Cursor.{Cursor}
 use Rattle.wire.specs.Told.{wroteTold, refusalTold}
 use Rattle.wire.proofs.Decided.{refusalBack, refusal-undoes, wrote-decided}

@@ -1,7 +1,7 @@
 // TYPE_INFO, reading: a function for each continuation of the definition. Only `read_column` is for
 // callers; the others ask that their place lies inside.
 ghost use mathlib.Core.Path.{_≡_};
-ghost use Prim.Native.Nat.{ℕ, _+_, _*_, _≤_, _<_};
+ghost use Prim.Native.Nat.{ℕ, _+_, _*_, _≤_};
 ghost use lib.ListN.{length};
 ghost use Rattle.format.specs.Answer.{readAt};
 ghost use Rattle.format.specs.Descriptor.{readColumn, readType, readFields, readDigits, readScale, readCollation, readSort, readSchema, readSecond, readThird, readName, readUnits};

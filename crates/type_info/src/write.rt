@@ -2,12 +2,11 @@
 // fail.
 ghost use mathlib.Core.Path.{_≡_};
 ghost use mathlib.Core.Bool.{true};
-ghost use mathlib.Core.List.{List, _++_};
-ghost use Prim.Native.Nat.{ℕ, _+_, _*_, _≤_, _<_};
+ghost use mathlib.Core.List.{_++_};
+ghost use Prim.Native.Nat.{ℕ, _+_, _*_, _≤_};
 ghost use lib.ListN.{length};
 ghost use lib.Seq.{sets};
 ghost use Rattle.format.specs.Answer.{fitted, wrote, roomAfter};
-ghost use Rattle.format.specs.Number.{lowBytes};
 ghost use Rattle.format.specs.Descriptor.{hasDigits, digitsBytes, collationBytes, nameBytes, schemaBytes, columnBytes, namesFit, writeColumn, xml};
 ghost use Rattle.wire.specs.Told.{wroteTold};
 ghost use Rattle.type_info.specs.Told.{typeTold, collationTold, nameTold, schemaTold, columnTold, NameIn};
