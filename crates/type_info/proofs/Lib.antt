@@ -4,3 +4,4 @@ pub mod FieldLaws
 pub mod RuleLaws
 pub mod WriteLaws
 pub mod Decided
+pub mod RoundTrip

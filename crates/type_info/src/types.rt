@@ -9,6 +9,7 @@ use crate::TypeId;
 use crate::TypeRead;
 use crate::UShortLen;
 
+// The bytes of each family.
 fn fixed_byte(t: FixedLen) -> u8
     ensures { λ r. ⌜ r ≡ fixedByte (fixedTold t) ⌝ }
 {
@@ -85,6 +86,7 @@ pub fn type_byte(t: TypeId) -> u8
     }
 }
 
+// The types of each family, by their byte.
 fn fixed_of(b: u8) -> TypeRead
     ensures { λ r. ⌜ typeReadTold r ≡ among fixedTypes b ⌝ }
 {
