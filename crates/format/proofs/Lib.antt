@@ -20,3 +20,6 @@ pub mod Scalars
 pub mod Utf8
 pub mod Utf16
 pub mod Text
+pub mod DescriptorForm
+pub mod DescriptorRead
+pub mod Descriptor
