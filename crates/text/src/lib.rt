@@ -74,12 +74,12 @@ pub fn utf8_size(u: &[u8]) -> Wrote
         return Wrote::Refused(Refusal::Sequence);
     }
     let mut at: usize = 0;
-    let mut n: usize = 0;
+    let mut m: usize = 0;
     while at < u.len() {
         let t = utf16::char16_at(u, at);
         match t {
             CharRead::Char(c, k) => {
-                n += utf8::size8(c);
+                m += utf8::size8(c);
                 at += k;
             }
             CharRead::Refused(e) => {
@@ -87,7 +87,7 @@ pub fn utf8_size(u: &[u8]) -> Wrote
             }
         }
     }
-    Wrote::Bytes(n)
+    Wrote::Bytes(m)
 }
 
 // UTF-16LE as UTF-8, at the front of the room.
@@ -97,12 +97,12 @@ pub fn to_utf8(u: &[u8], out: &mut [u8]) -> Wrote
 {
     let size = utf8_size(u);
     match size {
-        Wrote::Bytes(n) => {
-            if out.len() < n {
+        Wrote::Bytes(m) => {
+            if out.len() < m {
                 return Wrote::Refused(Refusal::Room);
             }
             inner::put_utf8(u, out);
-            Wrote::Bytes(n)
+            Wrote::Bytes(m)
         }
         Wrote::Refused(e) => Wrote::Refused(e),
     }

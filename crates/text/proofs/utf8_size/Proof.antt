@@ -15,10 +15,10 @@ use Rattle.text.proofs.utf8_size.Statement.{statement}
 use Rattle.text.proofs.utf8_size.Tie as tie
 
 abbrev Inv-loop : tie.InvT-loop
-Inv-loop u at₀ n₀ at n = Sizing char16 utf8 u at n × (2 * n ≤ 3 * at)
+Inv-loop u at₀ m₀ at m = Sizing char16 utf8 u at m × (2 * m ≤ 3 * at)
 
 abbrev μ-loop : tie.MeasureT-loop
-μ-loop u at₀ n₀ at n = length u - at
+μ-loop u at₀ m₀ at m = length u - at
 
 bytes : (c : tie.At-loop Inv-loop μ-loop) → Bytes (now (c .before .before .before .args .u))
 bytes c i = omega (arith, c .before .before .shared-slice-known .given i)
@@ -46,8 +46,8 @@ enum-known-t c = search needs
 size8-requires : tie.Need-size8-requires Inv-loop μ-loop
 size8-requires c κs = search needs
 
-add-n : tie.Need-add-n Inv-loop μ-loop
-add-n c = omega (arith, read (c .before .before), long c, c .before .before .before .before .before .before .before .before .before .good)
+add-m : tie.Need-add-m Inv-loop μ-loop
+add-m c = omega (arith, read (c .before .before), long c, c .before .before .before .before .before .before .before .before .before .good)
 
 add-at : tie.Need-add-at Inv-loop μ-loop
 add-at c = omega (arith, read (c .before .before), c .before .before .before .before .before .before .before .before .before .good)
@@ -84,7 +84,7 @@ utf8-size-spec =
     char16-at-requires
     enum-known-t
     size8-requires
-    add-n
+    add-m
     add-at
     loop-less
     loop-again
