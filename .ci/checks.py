@@ -1,10 +1,24 @@
 #!/usr/bin/env python3
-"""Cheap checks of the repository, before the proofs: crates.txt lists every crate folder, and docs/TRACE.md and docs/PUBLIC.md name only what exists."""
+"""Cheap checks of the repository, before the proofs.
+
+- crates.txt lists every folder of crates/.
+- The replay program's stdin and stdout are what the cases make.
+- The pages name only what exists. In backquotes they say
+      `Header.readHeader`              a definition, of crates/format/specs/Header.antt
+      `format/proofs/Marked.all-marked`    a theorem, of crates/format/proofs/Marked.antt
+      `header/specs/Told.headerTold`   a definition, of crates/header/specs/Told.antt
+      `header::read_header`            a function or type, of crates/header/src
+      `header!id_twice`                a must-fail edit, crates/header/must-fail/id_twice.edit
+      `cases:header-cut`               a tag of cases/public.jsonl or cases/rust.jsonl
+      `docs/..`, `crates/..`, `cases/..`   a file or folder
+"""
 import pathlib
 import re
+import subprocess
 import sys
 
 ROOT = pathlib.Path(__file__).resolve().parent.parent
+PAGES = ['README.md'] + ['docs/%s.md' % page for page in ('TRACE', 'PUBLIC', 'DIFFERENCES', 'DECISIONS', 'EXCEPTIONS', 'STOPS')]
 faults = []
 
 
@@ -14,36 +28,55 @@ def listed_crates():
 
 
 def folders():
-    return {p.name for p in (ROOT / 'crates').iterdir() if p.is_dir()}
+    return {path.name for path in (ROOT / 'crates').iterdir() if path.is_dir()}
 
 
-def declared(path, name):
-    """Is `name` declared in the file, as an item of Rattle, a definition or theorem of antt, or a must-fail edit?"""
-    text = path.read_text()
-    bare = re.escape(name)
-    if path.suffix == '.rt':
-        return re.search(r'\b(fn|enum|struct|const|mod) %s\b' % bare, text)
-    return re.search(r'(?m)^\s*((unfoldable|abbrev|pub|data|record) )*%s( \{[^}]*\})?( |$)' % bare, text)
+def tags():
+    text = ''.join((ROOT / 'cases' / name).read_text() for name in ('public.jsonl', 'rust.jsonl'))
+    return set(re.findall(r'"tag": ?"([^"]+)"', text))
 
 
-def check_names(page):
-    """Each `crates/FILE` on a page exists, and each name behind it, as `crates/FILE` `NAME`, is declared there."""
-    for number, line in enumerate((ROOT / page).read_text().splitlines(), 1):
-        for file, names in re.findall(r'`(crates/[^`]+)`((?:[ ,]*`[^`/ ]+`)*)', line):
-            path = ROOT / file
-            if not path.exists():
-                faults.append('%s:%d: %s does not exist' % (page, number, file))
-                continue
-            for name in re.findall(r'`([^`]+)`', names):
-                if path.is_file() and not declared(path, name):
-                    faults.append('%s:%d: %s declares no %s' % (page, number, file, name))
+def in_antt(path, name):
+    return path.is_file() and re.search(r'(?m)^\s*((unfoldable|abbrev|pub|data|record) )*%s( \{[^}]*\})? ?(\(|:|$)' % re.escape(name), path.read_text())
+
+
+def in_source(crate, name):
+    last = name.split('::')[-1]
+    sources = (ROOT / 'crates' / crate / 'src').glob('*.rt')
+    return any(re.search(r'\b(fn|enum|struct|const|mod) %s\b' % re.escape(last), path.read_text()) for path in sources)
+
+
+def exists(word, known_tags):
+    """Whether what the word names is there; None where it names nothing."""
+    if m := re.fullmatch(r'([A-Z]\w*)\.([\w′-]+)', word):
+        return in_antt(ROOT / 'crates/format/specs' / (m[1] + '.antt'), m[2])
+    if m := re.fullmatch(r'(\w+)/(specs|proofs)/(\w+)\.([\w′-]+)', word):
+        return in_antt(ROOT / 'crates' / m[1] / m[2] / (m[3] + '.antt'), m[4])
+    if m := re.fullmatch(r'([a-z]\w*)::([\w:]+)', word):
+        return in_source(m[1], m[2])
+    if m := re.fullmatch(r'(\w+)!(\w+)', word):
+        return (ROOT / 'crates' / m[1] / 'must-fail' / (m[2] + '.edit')).is_file()
+    if m := re.fullmatch(r'cases:([\w-]+)', word):
+        return m[1] in known_tags
+    if re.fullmatch(r'(docs|crates|cases|\.ci)/[\w./*-]+', word):
+        return any(ROOT.glob(word))
+    return None
+
+
+def check_pages():
+    known_tags = tags()
+    for page in PAGES:
+        for number, line in enumerate((ROOT / page).read_text().splitlines(), 1):
+            for word in re.findall(r'`([^`]+)`', line):
+                if exists(word, known_tags) is not None and not exists(word, known_tags):
+                    faults.append('%s:%d: there is no %s' % (page, number, word))
 
 
 for name in sorted(folders() - listed_crates()):
     faults.append('crates/%s is not listed in crates.txt' % name)
-for page in ('docs/TRACE.md', 'docs/PUBLIC.md', 'docs/DIFFERENCES.md', 'docs/DECISIONS.md', 'docs/EXCEPTIONS.md', 'README.md'):
-    check_names(page)
+check_pages()
+if subprocess.run([sys.executable, ROOT / 'cases' / 'frames.py', 'check']).returncode:
+    faults.append('cases/frames.py check failed')
 for fault in faults:
     print(fault)
-if faults:
-    sys.exit(1)
+sys.exit(1 if faults else 0)

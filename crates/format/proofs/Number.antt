@@ -111,7 +111,8 @@ high-forth (x ∷ xs) b =
 
 -- ---- two's complement
 
-half : (w : ℕ) → 0 < w → 256 ^ w / 2 + 256 ^ w / 2 ≡ 256 ^ w
+-- the range of a whole number has two halves
+pub half : (w : ℕ) → 0 < w → 256 ^ w / 2 + 256 ^ w / 2 ≡ 256 ^ w
 half zero h = absurd (omega arith)
 half (suc w) h = rw (pow-suc 256 w) (omega arith)
 

@@ -4,3 +4,4 @@ pub mod Writing
 pub mod GuidLaws
 pub mod Complement
 pub mod Floats
+pub mod Decided

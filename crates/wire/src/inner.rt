@@ -1,7 +1,7 @@
-// Leaves that ask something of their caller, for the crates of this repository: numbers and GUIDs
-// at a place that lies inside, and the copy of a part.
+// Leaves that ask something of their caller, for the crates of this repository: bytes, numbers and
+// GUIDs at a place that lies inside, and the copy of a part.
 ghost use mathlib.Core.Path.{_≡_};
-ghost use mathlib.Core.List.{_++_};
+ghost use mathlib.Core.List.{[], _∷_, _++_};
 ghost use Prim.Native.Nat.{_+_, _-_, _≤_, _<_, _^_};
 ghost use lib.ListN.{length, take, drop};
 ghost use lib.Seq.{sets};
@@ -15,6 +15,14 @@ fn wide(x: u8) -> u64
     ensures { λ r. ⌜ r ≡ x ⌝ }
 {
     x as u64
+}
+
+// The byte b at at.
+pub fn put_byte(out: &mut [u8], at: usize, b: u8)
+    requires { ⌜ at < length (now out) ⌝ }
+    ensures { λ _. ⌜ now (out .exit) ≡ sets (now (out .entry)) at (b ∷ []) ⌝ }
+{
+    out[at] = b;
 }
 
 // The number in the w bytes from at, low byte first.

@@ -5,7 +5,8 @@ pub mod inner;
 pub mod signed;
 
 ghost use mathlib.Core.Path.{_≡_};
-ghost use Prim.Native.Nat.{_^_};
+ghost use Prim.Native.Nat.{_+_, _^_};
+ghost use lib.Dec.{leb};
 ghost use lib.ListN.{length};
 ghost use Rattle.format.specs.Answer.{readAt, fitted, wrote, roomAfter};
 ghost use Rattle.format.specs.Number.{readByte, readLow, readHigh};
@@ -77,6 +78,19 @@ impl Width {
     }
 }
 
+// Do n bytes from a place lie inside the input? Exact for any two numbers.
+pub fn inside(s: &[u8], at: usize, n: usize) -> bool
+    ensures { λ r. ⌜ r ≡ leb (at + n) (length (now (s .entry))) ⌝ }
+{
+    if s.len() < at {
+        return false;
+    }
+    if s.len() - at < n {
+        return false;
+    }
+    true
+}
+
 impl Cursor {
     // The byte at the cursor.
     pub fn byte(self, s: &[u8]) -> ByteRead
@@ -96,13 +110,10 @@ impl Cursor {
     {
         let at = self.at;
         let n = w.bytes();
-        if s.len() < at {
-            return NumberRead::Refused(Refusal::Missing);
+        if inside(s, at, n) {
+            return NumberRead::Number(inner::low_at(s, at, n), Cursor { at: at + n });
         }
-        if s.len() - at < n {
-            return NumberRead::Refused(Refusal::Missing);
-        }
-        NumberRead::Number(inner::low_at(s, at, n), Cursor { at: at + n })
+        NumberRead::Refused(Refusal::Missing)
     }
 
     // The number at the cursor, high byte first.
@@ -111,13 +122,10 @@ impl Cursor {
     {
         let at = self.at;
         let n = w.bytes();
-        if s.len() < at {
-            return NumberRead::Refused(Refusal::Missing);
+        if inside(s, at, n) {
+            return NumberRead::Number(inner::high_at(s, at, n), Cursor { at: at + n });
         }
-        if s.len() - at < n {
-            return NumberRead::Refused(Refusal::Missing);
-        }
-        NumberRead::Number(inner::high_at(s, at, n), Cursor { at: at + n })
+        NumberRead::Refused(Refusal::Missing)
     }
 
     // The GUID whose sixteen bytes in wire order stand at the cursor.
@@ -125,13 +133,10 @@ impl Cursor {
         ensures { λ r. ⌜ guidTold r ≡ readAt readGuid (now (s .entry)) (self .at) ⌝ }
     {
         let at = self.at;
-        if s.len() < at {
-            return GuidRead::Refused(Refusal::Missing);
+        if inside(s, at, 16) {
+            return GuidRead::Guid(inner::guid_at(s, at), Cursor { at: at + 16 });
         }
-        if s.len() - at < 16 {
-            return GuidRead::Refused(Refusal::Missing);
-        }
-        GuidRead::Guid(inner::guid_at(s, at), Cursor { at: at + 16 })
+        GuidRead::Refused(Refusal::Missing)
     }
 }
 

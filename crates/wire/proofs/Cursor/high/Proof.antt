@@ -1,8 +1,9 @@
 -- `wire::Cursor::high` meets its contract: the number where all its bytes are there, refusal 1 where one is not. Assumes nothing.
 use Prim.Native.Nat.{ℕ, _+_, _≤_, _<_, _^_}
-use mathlib.Core.Path.{_≡_, refl, sym, ap, _∙_}
+use mathlib.Core.Path.{_≡_, sym, ap, _∙_}
 use native.Mathlib.Omega.{arith}
-use lib.ListN.{length, take, drop}
+use lib.ListN.{length}
+use borrow.Author.Tests.{leb-true, leb-false}
 use borrow.Author.Needs.{needs}
 use Rattle.wire.specs.Told.{widthOf}
 use Rattle.wire.proofs.Reading.{high-there, high-missing, width-le}
@@ -12,33 +13,33 @@ use Rattle.wire.proofs.Cursor.high.Tie as tie
 bytes-requires : tie.Need-bytes-requires
 bytes-requires c κs = search needs
 
+inside-requires : tie.Need-inside-requires
+inside-requires c κs = search needs
+
+-- the test said that the bytes are there
+there : (c : tie.Then1) → c .before .before .before .before .args .self .at + c .before .before .bytes .result ≤ length (c .before .before .before .before .args .s .now)
+there c = leb-true _ _ (sym (c .before .inside .ensures) ∙ c .if1 .taken)
+
+high-at-requires : tie.Need-high-at-requires
+high-at-requires c κs = (omega (arith, c .before .before .bytes .ensures, width-le (c .before .before .before .before .args .w)), there c)
+
+add-t8 : tie.Need-add-t8
+add-t8 c = omega (arith, there (c .before))
+
 returns : tie.Need-returns
 returns c =
-    let a = c .before .before .before .args in
-    (high-missing (a .s .now) (a .self .at) (widthOf (a .w)) (omega arith), tt)
-
-sub-if2 : tie.Need-sub-if2
-sub-if2 c = search needs
+    let a = c .before .before .before .before .before .args in
+    let e : c .before .before .before .bytes .result ≡ widthOf (a .w) = c .before .before .before .bytes .ensures in
+    let f = rw e at (c .high-at .ensures .0) in
+    let l : a .self .at + widthOf (a .w) ≤ length (a .s .now) = omega (arith, e, there (c .before)) in
+    (rw (e, f) (high-there (a .s .now) (a .self .at) (widthOf (a .w)) l), rw e at (c .high-at .ensures .1))
 
 returns-2 : tie.Need-returns-2
 returns-2 c =
     let a = c .before .before .before .before .args in
+    let h : length (a .s .now) < a .self .at + c .before .before .bytes .result = leb-false _ _ (sym (c .before .inside .ensures) ∙ c .if1 .left) in
     (high-missing (a .s .now) (a .self .at) (widthOf (a .w)) (omega (arith, c .before .before .bytes .ensures)), tt)
-
-high-at-requires : tie.Need-high-at-requires
-high-at-requires c κs = omega (arith, c .before .before .bytes .ensures, width-le (c .before .before .before .before .args .w))
-
-add-t6 : tie.Need-add-t6
-add-t6 c = search needs
-
-returns-3 : tie.Need-returns-3
-returns-3 c =
-    let a = c .before .before .before .before .before .args in
-    let e : c .before .before .before .bytes .result ≡ widthOf (a .w) = c .before .before .before .bytes .ensures in
-    let f = rw e at (c .high-at .ensures .0) in
-    let l : a .self .at + widthOf (a .w) ≤ length (a .s .now) = omega (arith, e) in
-    (rw (e, f) (high-there (a .s .now) (a .self .at) (widthOf (a .w)) l), rw e at (c .high-at .ensures .1))
 
 pub high-spec : {M : Type 1} → statement M
 high-spec =
-    tie.close (tie.spec bytes-requires returns sub-if2 returns-2 high-at-requires add-t6 returns-3)
+    tie.close (tie.spec bytes-requires inside-requires high-at-requires add-t8 returns returns-2)
