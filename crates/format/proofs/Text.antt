@@ -3,17 +3,15 @@
 -- Assumes nothing.
 use mathlib.Core.Path.{_≡_, refl, ap, sym, _∙_, subst}
 use mathlib.Core.List.{List, [], _∷_, _++_}
-use mathlib.Core.Bool.{Bool, true, false, not}
-use Prim.Native.Nat.{ℕ, zero, suc, _+_, _*_, _-_, _/_, _%_, _<_, _≤_}
+use mathlib.Core.Bool.{not}
+use Prim.Native.Nat.{ℕ, zero, suc, _+_, _*_, _%_, _<_, _≤_}
 use native.Mathlib.Omega.{arith}
-use lib.ListN.{length, getD, take, drop, length-append}
+use lib.ListN.{length, length-append}
 use lib.Seq.{getD-drop}
-use lib.Dec.{ltb, eqb}
-use borrow.Author.Tests.{eq-eqb, ne-eqb, eqb-true, not-false}
-use Rattle.lists.specs.Pick.{pick}
+use lib.Dec.{eqb}
+use borrow.Author.Tests.{eq-eqb, ne-eqb}
 use Rattle.lists.proofs.Split.{split}
-use Rattle.format.specs.Answer.{Answer, gives, refuses, Refusal, Read, sequence, refuseIf, andThen}
-use Rattle.format.specs.Number.{lowBytes}
+use Rattle.format.specs.Answer.{Answer, gives, refuses, Read, sequence, andThen}
 use Rattle.format.specs.Text.{char8, utf8, char16, utf16, scalars, spelled, textIn, textOut}
 use Rattle.format.proofs.Number.{Bytes}
 use Rattle.format.proofs.Scalars.{less, no-gives, converted, Form, Each, spelled-back, spelled-forth}

@@ -1,16 +1,15 @@
 -- One character of UTF-8: its bytes are read back as the character, and what is read as a character is its bytes. By the rows of table 3-7, each a range of
 -- first and second bytes that is the range of the scalar values whose bytes begin so.
 -- Assumes nothing.
-use mathlib.Core.Path.{_≡_, refl, ap, sym, _∙_, subst}
+use mathlib.Core.Path.{_≡_, refl, ap, _∙_}
 use mathlib.Core.List.{List, [], _∷_, _++_}
-use mathlib.Core.Bool.{Bool, true, false}
 use Prim.Native.Nat.{ℕ, zero, suc, _+_, _*_, _-_, _/_, _%_, _<_, _≤_}
 use native.Mathlib.Omega.{arith}
-use lib.ListN.{length, take}
+use lib.ListN.{length}
 use lib.Dec.{ltb}
 use borrow.Author.Tests.{lt-ltb, le-ltb, ltb-true}
 use Rattle.lists.proofs.Split.{split}
-use Rattle.format.specs.Answer.{Read, took, stops, notText}
+use Rattle.format.specs.Answer.{took, notText}
 use Rattle.format.specs.Text.{between, Row, wellFormed, tail8, second8, among8, char8, utf8}
 use Rattle.format.proofs.Place.{no-took}
 use Rattle.format.proofs.Scalars.{between-in, between-above, in-between, less, Scalar, below, above, Forth, forth-is}

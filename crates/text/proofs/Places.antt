@@ -1,20 +1,19 @@
 -- One character at a place: byte by byte for UTF-8, unit by unit for UTF-16LE.
 -- Assumes nothing.
-use mathlib.Core.Path.{_≡_, refl, ap, sym, _∙_, subst}
-use mathlib.Core.List.{List, [], _∷_, _++_}
-use mathlib.Core.Bool.{Bool, true, false}
-use Prim.Native.Nat.{ℕ, zero, suc, _+_, _*_, _-_, _<_, _≤_}
+use mathlib.Core.Path.{_≡_, refl, ap, sym, _∙_}
+use mathlib.Core.List.{List, [], _∷_}
+use mathlib.Core.Bool.{true, false}
+use Prim.Native.Nat.{ℕ, suc, _+_, _*_, _-_, _<_, _≤_}
 use native.Mathlib.Omega.{arith}
 use native.Mathlib.Numerals.{add-one}
-use lib.ListN.{length, getD, take, drop, length-drop, drop-of-length-le}
-use lib.Seq.{drop-cons, drop-drop}
-use Rattle.lists.specs.Pick.{pick}
-use Rattle.format.specs.Answer.{Read, took, stops, notText}
+use lib.ListN.{length, getD, drop, drop-of-length-le}
+use lib.Seq.{drop-cons}
+use Rattle.format.specs.Answer.{took, stops, notText}
 use Rattle.format.specs.Text.{between, wellFormed, second8, tail8, char8}
 use Rattle.format.specs.Text as T
 use Rattle.format.proofs.Scalars.{less, in-between}
 use Rattle.format.proofs.Utf8.{first-ascii}
-use Rattle.text.specs.Told.{standsIn, Chosen, chosen, none, leadIn}
+use Rattle.text.specs.Told.{standsIn, chosen, none, leadIn}
 use Rattle.text.proofs.Rows.{lead-row, lead-none}
 
 module _ (s : List ℕ) (at : ℕ) where

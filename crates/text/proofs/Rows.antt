@@ -1,13 +1,12 @@
 -- The row of table 3-7 that a first byte chooses: found by its tests one after another, and what the table says of a character that begins so.
 -- Assumes nothing.
-use mathlib.Core.Path.{_≡_, refl, ap, sym, _∙_, subst}
-use mathlib.Core.List.{List, [], _∷_, _++_}
+use mathlib.Core.Path.{_≡_, refl, ap, _∙_, subst}
+use mathlib.Core.List.{List, [], _∷_}
 use mathlib.Core.Bool.{Bool, true, false}
-use Prim.Native.Nat.{ℕ, zero, suc, _+_, _*_, _-_, _<_, _≤_}
+use Prim.Native.Nat.{ℕ, _≤_}
 use native.Mathlib.Omega.{arith}
-use Rattle.lists.specs.Pick.{pick}
 use Rattle.lists.proofs.Split.{split}
-use Rattle.format.specs.Answer.{Read, took, stops, notText}
+use Rattle.format.specs.Answer.{Read, stops, notText}
 use Rattle.format.specs.Text.{between, wellFormed, second8, among8, char8}
 use Rattle.format.specs.Text as T
 use Rattle.format.proofs.Scalars.{in-between}

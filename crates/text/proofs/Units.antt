@@ -1,14 +1,14 @@
 -- One character of UTF-16LE at a place: by the unit there, and by the one behind it where the first is a high surrogate.
 -- Assumes nothing.
-use mathlib.Core.Path.{_≡_, refl, ap, sym, _∙_}
-use mathlib.Core.List.{List, [], _∷_}
+use mathlib.Core.Path.{_≡_, ap, sym, _∙_}
+use mathlib.Core.List.{List, _∷_}
 use mathlib.Core.Bool.{true, false}
 use Prim.Native.Nat.{ℕ, _+_, _*_, _-_, _<_, _≤_}
 use native.Mathlib.Omega.{arith}
-use lib.ListN.{length, getD, drop, length-drop}
+use lib.ListN.{length, getD, drop}
 use lib.Seq.{drop-drop}
 use borrow.Author.Tests.{lt-ltb, le-ltb}
-use Rattle.format.specs.Answer.{Read, took, stops, notText}
+use Rattle.format.specs.Answer.{took, stops, notText}
 use Rattle.format.specs.Text.{between, unit, pair16, char16}
 use Rattle.format.proofs.Utf16.{lone}
 use Rattle.text.proofs.Places.{drop-next}
@@ -45,5 +45,4 @@ module _ (s : List ℕ) (at a : ℕ) (e : a ≡ unit (drop at s)) (h : 2 ≤ len
   first-low f g = rw (le-ltb (length (drop at s)) 2 h, ← e, f, g)
 
   pub first-one : between 0xD800 0xDBFF a ≡ false → between 0xDC00 0xDFFF a ≡ false → took a 2 ≡ char16 (drop at s)
-  unfolding char16
-  first-one f g = rw (le-ltb (length (drop at s)) 2 h, ← e, f, g)
+  first-one f g = ap (λ (n : ℕ). took n 2) e ∙ sym (lone (drop at s) h (rw (← e) f) (rw (← e) g))

@@ -13,6 +13,7 @@ use crate::CharRead;
 use crate::utf8;
 use crate::utf8::Row;
 use crate::utf16;
+use crate::within;
 use wire::Refusal;
 
 // The six low bits of a byte from 80 up to BF.
@@ -65,7 +66,7 @@ pub fn pair_at(s: &[u8], at: usize, a: u32) -> CharRead
         return CharRead::Refused(Refusal::NotText);
     }
     let b = unit_at(s, at);
-    if utf8::within(0xDC00, 0xDFFF, b) {
+    if within(0xDC00, 0xDFFF, b) {
         return CharRead::Char(0x10000 + (a - 0xD800) * 1024 + (b - 0xDC00), 4);
     }
     CharRead::Refused(Refusal::NotText)

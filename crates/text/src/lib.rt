@@ -1,12 +1,12 @@
 // UTF-8 to UTF-16LE and back. A first pass judges the text and finds the size, a second one writes.
-pub mod inner;
+mod inner;
 pub mod utf16;
 pub mod utf8;
 
 ghost use mathlib.Core.Path.{_≡_};
 ghost use lib.ListN.{length};
 ghost use Rattle.format.specs.Answer.{fitted, wrote, roomAfter};
-ghost use Rattle.format.specs.Text.{textIn, textOut};
+ghost use Rattle.format.specs.Text.{between, textIn, textOut};
 ghost use Rattle.wire.specs.Told.{wroteTold};
 use wire::Refusal;
 use wire::Wrote;
@@ -15,6 +15,16 @@ use wire::Wrote;
 pub enum CharRead {
     Char(u32, usize),
     Refused(Refusal),
+}
+
+// Whether n lies from low up to high.
+fn within(low: u32, high: u32, n: u32) -> bool
+    ensures { λ r. ⌜ r ≡ between low high n ⌝ }
+{
+    if n < low {
+        return false;
+    }
+    n <= high
 }
 
 // How many bytes UTF-8 takes in UTF-16LE.
@@ -64,12 +74,12 @@ pub fn utf8_size(u: &[u8]) -> Wrote
         return Wrote::Refused(Refusal::Sequence);
     }
     let mut at: usize = 0;
-    let mut n: usize = 0;
+    let mut m: usize = 0;
     while at < u.len() {
         let t = utf16::char16_at(u, at);
         match t {
             CharRead::Char(c, k) => {
-                n += utf8::size8(c);
+                m += utf8::size8(c);
                 at += k;
             }
             CharRead::Refused(e) => {
@@ -77,7 +87,7 @@ pub fn utf8_size(u: &[u8]) -> Wrote
             }
         }
     }
-    Wrote::Bytes(n)
+    Wrote::Bytes(m)
 }
 
 // UTF-16LE as UTF-8, at the front of the room.
@@ -87,12 +97,12 @@ pub fn to_utf8(u: &[u8], out: &mut [u8]) -> Wrote
 {
     let size = utf8_size(u);
     match size {
-        Wrote::Bytes(n) => {
-            if out.len() < n {
+        Wrote::Bytes(m) => {
+            if out.len() < m {
                 return Wrote::Refused(Refusal::Room);
             }
             inner::put_utf8(u, out);
-            Wrote::Bytes(n)
+            Wrote::Bytes(m)
         }
         Wrote::Refused(e) => Wrote::Refused(e),
     }

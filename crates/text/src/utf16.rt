@@ -5,7 +5,7 @@ ghost use Rattle.format.specs.Text.{char16, utf16};
 ghost use Rattle.text.specs.Told.{charTold};
 use crate::CharRead;
 use crate::inner;
-use crate::utf8;
+use crate::within;
 use wire::Refusal;
 
 // The character at a place.
@@ -19,17 +19,17 @@ pub fn char16_at(s: &[u8], at: usize) -> CharRead
         return CharRead::Refused(Refusal::NotText);
     }
     let first = inner::unit_at(s, at);
-    if utf8::within(0xD800, 0xDBFF, first) {
+    if within(0xD800, 0xDBFF, first) {
         return inner::pair_at(s, at + 2, first);
     }
-    if utf8::within(0xDC00, 0xDFFF, first) {
+    if within(0xDC00, 0xDFFF, first) {
         return CharRead::Refused(Refusal::NotText);
     }
     CharRead::Char(first, 2)
 }
 
 // How many bytes a scalar value takes.
-pub fn size16(c: u32) -> usize
+pub(crate) fn size16(c: u32) -> usize
     ensures { λ r. ⌜ r ≡ length (utf16 c) ⌝ }
 {
     if c < 0x10000 {

@@ -1,34 +1,37 @@
 // One character of UTF-8: decoding by table 3-7 of the Unicode Standard, and the size.
 ghost use mathlib.Core.Path.{_≡_};
 ghost use lib.ListN.{length, drop};
-ghost use Rattle.format.specs.Text.{between, wellFormed, char8, utf8};
-ghost use Rattle.text.specs.Told.{charTold, standsIn, leadTold, leadIn};
+ghost use Rattle.format.specs.Text.{wellFormed, char8, utf8};
+ghost use Rattle.text.specs.Told.{charTold, standsIn, row, chosen, leadTold, leadIn};
 use crate::CharRead;
 use crate::inner;
+use crate::within;
 use wire::Refusal;
 
 // A row of the table, by its first byte: the first byte's marker bits, the second byte's range, and
 // how many bytes of 80 to BF follow the second.
-pub struct Row {
+pub(crate) struct Row {
     pub marker: u32,
     pub low: u32,
     pub high: u32,
     pub more: u32,
 }
 
-pub enum Lead {
+pub(crate) enum Lead {
     Row(Row),
     None,
 }
 
-// Whether n lies from low up to high.
-pub fn within(low: u32, high: u32, n: u32) -> bool
-    ensures { λ r. ⌜ r ≡ between low high n ⌝ }
+// A row with these numbers.
+fn row_with(marker: u32, low: u32, high: u32, more: u32) -> Lead
+    ensures { λ r. ⌜ leadTold r ≡ chosen (row marker low high more) ⌝ }
 {
-    if n < low {
-        return false;
-    }
-    n <= high
+    Lead::Row(Row {
+        marker,
+        low,
+        high,
+        more,
+    })
 }
 
 // The row that a first byte from 80 on chooses.
@@ -36,74 +39,34 @@ fn row_of(a: u32) -> Lead
     ensures { λ r. ⌜ leadTold r ≡ leadIn wellFormed a ⌝ }
 {
     if within(0xC2, 0xDF, a) {
-        return Lead::Row(Row {
-            marker: 0xC0,
-            low: 0x80,
-            high: 0xBF,
-            more: 0,
-        });
+        return row_with(0xC0, 0x80, 0xBF, 0);
     }
     if within(0xE0, 0xE0, a) {
-        return Lead::Row(Row {
-            marker: 0xE0,
-            low: 0xA0,
-            high: 0xBF,
-            more: 1,
-        });
+        return row_with(0xE0, 0xA0, 0xBF, 1);
     }
     if within(0xE1, 0xEC, a) {
-        return Lead::Row(Row {
-            marker: 0xE0,
-            low: 0x80,
-            high: 0xBF,
-            more: 1,
-        });
+        return row_with(0xE0, 0x80, 0xBF, 1);
     }
     if within(0xED, 0xED, a) {
-        return Lead::Row(Row {
-            marker: 0xE0,
-            low: 0x80,
-            high: 0x9F,
-            more: 1,
-        });
+        return row_with(0xE0, 0x80, 0x9F, 1);
     }
     if within(0xEE, 0xEF, a) {
-        return Lead::Row(Row {
-            marker: 0xE0,
-            low: 0x80,
-            high: 0xBF,
-            more: 1,
-        });
+        return row_with(0xE0, 0x80, 0xBF, 1);
     }
     if within(0xF0, 0xF0, a) {
-        return Lead::Row(Row {
-            marker: 0xF0,
-            low: 0x90,
-            high: 0xBF,
-            more: 2,
-        });
+        return row_with(0xF0, 0x90, 0xBF, 2);
     }
     if within(0xF1, 0xF3, a) {
-        return Lead::Row(Row {
-            marker: 0xF0,
-            low: 0x80,
-            high: 0xBF,
-            more: 2,
-        });
+        return row_with(0xF0, 0x80, 0xBF, 2);
     }
     if within(0xF4, 0xF4, a) {
-        return Lead::Row(Row {
-            marker: 0xF0,
-            low: 0x80,
-            high: 0x8F,
-            more: 2,
-        });
+        return row_with(0xF0, 0x80, 0x8F, 2);
     }
     Lead::None
 }
 
 // Whether a byte from low up to high stands at a place.
-pub fn stands(s: &[u8], at: usize, low: u32, high: u32) -> bool
+pub(crate) fn stands(s: &[u8], at: usize, low: u32, high: u32) -> bool
     ensures { λ r. ⌜ r ≡ standsIn low high (drop at (now (s .entry))) ⌝ }
 {
     if s.len() <= at {
@@ -131,7 +94,7 @@ pub fn char8_at(s: &[u8], at: usize) -> CharRead
 }
 
 // How many bytes a scalar value takes.
-pub fn size8(c: u32) -> usize
+pub(crate) fn size8(c: u32) -> usize
     ensures { λ r. ⌜ r ≡ length (utf8 c) ⌝ }
 {
     if c < 0x80 {

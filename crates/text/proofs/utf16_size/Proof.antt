@@ -1,35 +1,31 @@
 -- `text::utf16_size` meets its contract. The invariant: what the text comes to is what it comes to from here on, behind what was counted. Assumes nothing.
-use mathlib.Core.Path.{_≡_, sym, ap, _∙_}
-use Prim.Native.Nat.{ℕ, _+_, _*_, _-_, _<_, _≤_}
+use mathlib.Core.Path.{sym, ap, _∙_}
+use Prim.Native.Nat.{_*_, _-_, _≤_}
 use native.Mathlib.Omega.{arith}
-use lib.ListN.{length, drop}
+use lib.ListN.{length}
 use denote.Ref.{now}
 use borrow.Author.Needs.{needs}
-use Rattle.format.specs.Answer.{took, stops}
 use Rattle.format.specs.Text.{char8, utf16, textIn}
 use Rattle.text.specs.Told.{charTold}
-use Rattle.text.proofs.Turns.{taken8, Sized, size-start, size-more, size-stop, size-end}
+use Rattle.text.proofs.Turns.{Stands, stands8, long8, Sizing, size-start, size-more, size-stop, size-end}
 use Rattle.text.proofs.utf16_size.Statement.{statement}
 use Rattle.text.proofs.utf16_size.Tie as tie
 
 abbrev Inv-loop : tie.InvT-loop
-Inv-loop s at₀ n₀ at n = (at ≤ length s) × (n ≤ 2 * at) × Sized char8 utf16 s at n
+Inv-loop s at₀ n₀ at n = Sizing char8 utf16 s at n × (n ≤ 2 * at)
 
 abbrev μ-loop : tie.MeasureT-loop
 μ-loop s at₀ n₀ at n = length s - at
 
--- the character that was read
-read : (c : tie.After-t Inv-loop μ-loop) → let l = c .before .before .before .before in took (c .t .given .0 .0) (c .t .given .0 .1 .0) ≡ char8 (drop (l .loop .at) (now (l .before .before .args .s)))
-read c = sym (ap charTold (c .t .given .1)) ∙ c .before .before .char8-at .ensures
+-- the character that was read, and how long it is in UTF-16LE
+read : (c : tie.After-t Inv-loop μ-loop) → let l = c .before .before .before .before in Stands char8 (now (l .before .before .args .s)) (l .loop .at) (c .t .given .0 .0) (c .t .given .0 .1 .0)
+read c = let l = c .before .before .before .before in stands8 (now (l .before .before .args .s)) (l .loop .at) (c .t .given .0 .0) (c .t .given .0 .1 .0) (c .before .before .before .loop-test .taken) (sym (ap charTold (c .t .given .1)) ∙ c .before .before .char8-at .ensures)
 
--- how far it reaches, and how long it is in UTF-16LE
-reach : (c : tie.After-size16 Inv-loop μ-loop) → let l = c .before .before .before .before .before .before in let k = c .before .before .t .given .0 .1 .0 in (0 < k) × (l .loop .at + k ≤ length (now (l .before .before .args .s))) × (c .size16 .result ≤ 2 * k)
-reach c =
-    let l = c .before .before .before .before .before .before in
-    rw (c .size16 .ensures) (taken8 (now (l .before .before .args .s)) (l .loop .at) (c .before .before .t .given .0 .0) (c .before .before .t .given .0 .1 .0) (read (c .before .before)))
+long : (c : tie.After-size16 Inv-loop μ-loop) → c .size16 .result ≤ 2 * c .before .before .t .given .0 .1 .0
+long c = let w = c .before .before in let l = w .before .before .before .before in rw (c .size16 .ensures) (long8 (now (l .before .before .args .s)) (l .loop .at) (w .t .given .0 .0) (w .t .given .0 .1 .0) (read w))
 
 loop-holds : tie.Need-loop-holds Inv-loop μ-loop
-loop-holds c = (search needs, search needs, size-start char8 utf16 (c .before .args .s .now))
+loop-holds c = (size-start char8 utf16 (now (c .before .args .s)), search needs)
 
 char8-at-requires : tie.Need-char8-at-requires Inv-loop μ-loop
 char8-at-requires c κs = search needs
@@ -41,20 +37,19 @@ size16-requires : tie.Need-size16-requires Inv-loop μ-loop
 size16-requires c κs = search needs
 
 add-n : tie.Need-add-n Inv-loop μ-loop
-add-n c = omega (arith, reach c, c .before .before .before .before .before .before .before .before .good)
+add-n c = omega (arith, read (c .before .before), long c, c .before .before .before .before .before .before .before .before .good)
 
 add-at : tie.Need-add-at Inv-loop μ-loop
-add-at c = omega (arith, reach c, c .before .before .before .before .before .before .before .before .good)
+add-at c = omega (arith, read (c .before .before), c .before .before .before .before .before .before .before .before .good)
 
 loop-less : tie.Need-loop-less Inv-loop μ-loop
-loop-less c = omega (arith, reach c)
+loop-less c = omega (arith, read (c .before .before))
 
 loop-again : tie.Need-loop-again Inv-loop μ-loop
 loop-again c =
-    let l = c .before .before .before .before .before .before in
     let w = c .before .before in
-    let r = reach c in
-    (r .1, omega (arith, r .2), rw (c .size16 .ensures) (size-more char8 utf16 (now (l .before .before .args .s)) (l .loop .at) (l .loop .n) (l .loop .inv .2) (w .t .given .0 .0) (w .t .given .0 .1 .0) (c .before .before .before .before .before .loop-test .taken) (r .0) (read w)))
+    let l = w .before .before .before .before in
+    (size-more (l .loop .inv .0) (w .t .given .0 .0) (w .t .given .0 .1 .0) (c .size16 .result) (c .size16 .ensures) (read w), omega (arith, long c))
 
 enum-known-t-2 : tie.Need-enum-known-t-2 Inv-loop μ-loop
 enum-known-t-2 c = search needs
@@ -64,13 +59,11 @@ unfolding textIn
 returns c =
     let i = c .before .before .before .before in
     let l = i .before in
-    size-stop char8 utf16 (now (l .before .before .args .s)) (l .loop .at) (l .loop .n) (l .loop .inv .2) _ (i .loop-test .taken) (sym (ap charTold (c .before .t2 .given .1)) ∙ c .before .before .before .char8-at .ensures)
+    size-stop (l .loop .inv .0) _ (i .loop-test .taken) (sym (ap charTold (c .before .t2 .given .1)) ∙ c .before .before .before .char8-at .ensures)
 
 returns-2 : tie.Need-returns-2 Inv-loop μ-loop
 unfolding textIn
-returns-2 c =
-    let l = c .before in
-    size-end char8 utf16 (now (l .before .before .args .s)) (l .loop .at) (l .loop .n) (l .loop .inv .2) (c .loop-test .left)
+returns-2 c = let l = c .before in size-end (l .loop .inv .0) (c .loop-test .left)
 
 pub utf16-size-spec : {M : Type 1} → statement M
 utf16-size-spec =

@@ -2,7 +2,7 @@
 use mathlib.Core.Path.{_≡_, sym, _∙_}
 use mathlib.Core.Bool.{true}
 use native.Mathlib.Omega.{arith}
-use lib.ListN.{length, drop, length-drop}
+use lib.ListN.{drop, length-drop}
 use denote.Ref.{now}
 use Rattle.format.specs.Text.{between}
 use Rattle.format.proofs.Scalars.{in-between}

@@ -1,48 +1,39 @@
--- `text::inner::put_utf16` meets its contract. The invariant: the bytes written stand at the front, and what is still to write is what the text comes to from here.
+-- `text::inner::put_utf16` meets its contract. The invariant: the bytes written stand at the front, and what is still to write is what the text comes to from here on.
 -- Assumes nothing.
 use mathlib.Core.Path.{_≡_, refl, sym, ap, _∙_}
-use mathlib.Core.List.{List, _++_}
-use Prim.Native.Nat.{ℕ, _+_, _*_, _-_, _<_, _≤_}
+use Prim.Native.Nat.{_-_, _≤_}
 use native.Mathlib.Omega.{arith}
-use lib.ListN.{length, drop}
+use lib.ListN.{length}
 use denote.Ref.{now}
 use borrow.Author.Needs.{needs}
-use Rattle.format.specs.Answer.{gives, took}
+use Rattle.format.specs.Answer.{gives}
 use Rattle.format.specs.Text.{char8, utf16, textIn}
-use Rattle.lists.specs.Put.{front}
-use Rattle.lists.proofs.Front.{front-none, front-end}
-use Rattle.format.proofs.Scalars.{converted}
+use Rattle.lists.proofs.Front.{front-none}
 use Rattle.format.proofs.Text.{in-gives}
 use Rattle.text.specs.Told.{charTold}
 use Rattle.text.proofs.Sized.{given, fits-given, after-given}
-use Rattle.text.proofs.Turns.{taken8, write-room, write-turn, write-stop, write-end}
+use Rattle.text.proofs.Turns.{Stands, stands8, Writing, write-room, write-more, write-stop, write-end}
 use Rattle.text.proofs.inner.put_utf16.Statement.{statement}
 use Rattle.text.proofs.inner.put_utf16.Tie as tie
 
 abbrev Inv-loop : tie.InvT-loop
-Inv-loop s out₀ at₀ o₀ out at o =
-    let j = given (textIn s) in
-    (at ≤ length s) × (o ≤ length j) × (length out ≡ length out₀) × (out ≡ front j o out₀) × (converted char8 utf16 (drop at s) ≡ gives (drop o j))
+Inv-loop s out₀ at₀ o₀ out at o = Writing char8 utf16 s (given (textIn s)) out₀ out at o
 
 abbrev μ-loop : tie.MeasureT-loop
 μ-loop s out₀ at₀ o₀ out at o = length s - at
 
 -- the bytes to write, and the room for them
-fits : (c : tie.After-slice-known Inv-loop μ-loop) → let a = c .before .before .args in (textIn (now (a .s)) ≡ gives (given (textIn (now (a .s))))) × (length (given (textIn (now (a .s)))) ≤ length (now (a .out)))
-fits c = fits-given (textIn (now (c .before .before .args .s))) (length (now (c .before .before .args .out))) (c .before .before .pre)
+fits : (c : tie.After-slice-known Inv-loop μ-loop) → let a = c .before .before .args in let t = textIn (now (a .s)) in (t ≡ gives (given t)) × (length (given t) ≤ length (now (a .out)))
+fits c = let a = c .before .before .args in fits-given (textIn (now (a .s))) (length (now (a .out))) (c .before .before .pre)
 
--- the character that was read, and how far it reaches
-read : (c : tie.After-t Inv-loop μ-loop) → let l = c .before .before .before .before in took (c .t .given .0 .0) (c .t .given .0 .1 .0) ≡ char8 (drop (l .loop .at) (now (l .before .before .before .args .s)))
-read c = sym (ap charTold (c .t .given .1)) ∙ c .before .before .char8-at .ensures
-
-reach : (c : tie.After-t Inv-loop μ-loop) → let l = c .before .before .before .before in (0 < c .t .given .0 .1 .0) × (l .loop .at + c .t .given .0 .1 .0 ≤ length (now (l .before .before .before .args .s)))
-reach c =
-    let l = c .before .before .before .before in
-    let t = taken8 (now (l .before .before .before .args .s)) (l .loop .at) (c .t .given .0 .0) (c .t .given .0 .1 .0) (read c) in
-    (t .0, t .1)
+-- the character that was read
+read : (c : tie.After-t Inv-loop μ-loop) → let l = c .before .before .before .before in Stands char8 (now (l .before .before .before .args .s)) (l .loop .at) (c .t .given .0 .0) (c .t .given .0 .1 .0)
+read c = let l = c .before .before .before .before in stands8 (now (l .before .before .before .args .s)) (l .loop .at) (c .t .given .0 .0) (c .t .given .0 .1 .0) (c .before .before .before .loop-test .taken) (sym (ap charTold (c .t .given .1)) ∙ c .before .before .char8-at .ensures)
 
 loop-holds : tie.Need-loop-holds Inv-loop μ-loop
-loop-holds c = (search needs, search needs, refl, front-none _ _, in-gives (now (c .before .before .args .s)) (given (textIn (now (c .before .before .args .s)))) (fits c .0))
+loop-holds c =
+    let s = now (c .before .before .args .s) in
+    record { inside = search needs; within = search needs; same = refl; holds = front-none _ _; left = in-gives s (given (textIn s)) (fits c .0) }
 
 char8-at-requires : tie.Need-char8-at-requires Inv-loop μ-loop
 char8-at-requires c κs = search needs
@@ -54,35 +45,23 @@ put-char16-requires : tie.Need-put-char16-requires Inv-loop μ-loop
 put-char16-requires c κs =
     let w = c .before .before in
     let l = w .before .before .before .before in
-    write-room char8 utf16 (now (l .before .before .before .args .s)) (given (textIn (now (l .before .before .before .args .s)))) (l .loop .at) (l .loop .o) (l .loop .inv .4) (l .loop .out) (now (l .before .before .before .args .out)) (w .t .given .0 .0) (w .t .given .0 .1 .0) (w .before .before .before .loop-test .taken) (reach w .0) (read w) (l .loop .inv .1) (fits (l .before) .1) (l .loop .inv .2) (l .loop .inv .3)
-
--- what one turn has written
-turned : (c : tie.After-slice-known2 Inv-loop μ-loop) →
-    let w = c .before .before .before .before .before in
-    let l = w .before .before .before .before in
-    let j = given (textIn (now (l .before .before .before .args .s))) in
-    let o = l .loop .o + c .before .before .put-char16 .result in
-    let new = c .before .before .put-char16 .last .0 in
-    (o ≤ length j) × (length new ≡ length (now (l .before .before .before .args .out))) × (new ≡ front j o (now (l .before .before .before .args .out))) × (converted char8 utf16 (drop (l .loop .at + w .t .given .0 .1 .0) (now (l .before .before .before .args .s))) ≡ gives (drop o j))
-turned c =
-    let w = c .before .before .before .before .before in
-    let l = w .before .before .before .before in
-    let p = c .before .before .put-char16 in
-    write-turn char8 utf16 (now (l .before .before .before .args .s)) (given (textIn (now (l .before .before .before .args .s)))) (l .loop .at) (l .loop .o) (l .loop .inv .4) (l .loop .out) (now (l .before .before .before .args .out)) (w .t .given .0 .0) (w .t .given .0 .1 .0) (w .before .before .before .loop-test .taken) (reach w .0) (read w) (l .loop .inv .1) (fits (l .before) .1) (l .loop .inv .2) (l .loop .inv .3) _ (p .result) (p .ensures .0) (p .ensures .1)
-
-add-o : tie.Need-add-o Inv-loop μ-loop
-add-o c = omega (arith, turned c .0, fits (c .before .before .before .before .before .before .before .before .before .before) .1, c .before .before .before .before .before .before .before .before .before .before .before .before .good)
-
-add-at : tie.Need-add-at Inv-loop μ-loop
-add-at c = omega (arith, reach (c .before .before .before .before .before), c .before .before .before .before .before .before .before .before .before .before .before .before .good)
-
-loop-less : tie.Need-loop-less Inv-loop μ-loop
-loop-less c = omega (arith, reach (c .before .before .before .before .before))
+    write-room (l .loop .inv) (w .t .given .0 .0) (w .t .given .0 .1 .0) (read w) (fits (l .before) .1)
 
 loop-again : tie.Need-loop-again Inv-loop μ-loop
 loop-again c =
-    let m = turned c in
-    (reach (c .before .before .before .before .before) .1, m .0, m .1, m .2, m .3)
+    let w = c .before .before .before .before .before in
+    let l = w .before .before .before .before in
+    let p = c .before .before .put-char16 in
+    write-more (l .loop .inv) (w .t .given .0 .0) (w .t .given .0 .1 .0) (read w) (fits (l .before) .1) _ (p .result) (p .ensures .0) (p .ensures .1)
+
+add-o : tie.Need-add-o Inv-loop μ-loop
+add-o c = omega (arith, loop-again c .within, fits (c .before .before .before .before .before .before .before .before .before .before) .1, c .before .before .before .before .before .before .before .before .before .before .before .before .good)
+
+add-at : tie.Need-add-at Inv-loop μ-loop
+add-at c = omega (arith, read (c .before .before .before .before .before), c .before .before .before .before .before .before .before .before .before .before .before .before .good)
+
+loop-less : tie.Need-loop-less Inv-loop μ-loop
+loop-less c = omega (arith, read (c .before .before .before .before .before))
 
 enum-known-t-2 : tie.Need-enum-known-t-2 Inv-loop μ-loop
 enum-known-t-2 c = search needs
@@ -93,8 +72,7 @@ same-length c = search needs
 returns : tie.Need-returns Inv-loop μ-loop
 returns c =
     let i = c .before .before .before .before in
-    let l = i .before in
-    write-stop char8 utf16 (now (l .before .before .before .args .s)) (given (textIn (now (l .before .before .before .args .s)))) (l .loop .at) (l .loop .o) (l .loop .inv .4) _ (i .loop-test .taken) (sym (ap charTold (c .before .t2 .given .1)) ∙ c .before .before .before .char8-at .ensures)
+    write-stop (i .before .loop .inv) _ (i .loop-test .taken) (sym (ap charTold (c .before .t2 .given .1)) ∙ c .before .before .before .char8-at .ensures)
 
 same-length-2 : tie.Need-same-length-2 Inv-loop μ-loop
 same-length-2 c = search needs
@@ -103,9 +81,7 @@ returns-2 : tie.Need-returns-2 Inv-loop μ-loop
 returns-2 c =
     let l = c .before in
     let a = l .before .before .before .args in
-    l .loop .inv .3
-    ∙ (front-end (given (textIn (now (l .before .before .before .args .s)))) (l .loop .o) (now (a .out)) (l .loop .inv .1) (write-end char8 utf16 (now (l .before .before .before .args .s)) (given (textIn (now (l .before .before .before .args .s)))) (l .loop .at) (l .loop .o) (l .loop .inv .4) (c .loop-test .left))
-    ∙ after-given (textIn (now (a .s))) (now (a .out)) (fits (l .before) .0))
+    write-end (l .loop .inv) (c .loop-test .left) ∙ after-given (textIn (now (a .s))) (now (a .out)) (fits (l .before) .0)
 
 pub put-utf16-spec : {M : Type 1} → statement M
 put-utf16-spec =

@@ -5,7 +5,7 @@ use lib.ListN.{getD}
 use denote.Ref.{now}
 use borrow.Author.Needs.{needs}
 use Rattle.format.specs.Text.{wellFormed}
-use Rattle.text.specs.Told.{leadTold, rowTold, leadIn, chosen, none}
+use Rattle.text.specs.Told.{leadTold, rowTold, leadIn, chosen}
 use Rattle.text.proofs.Rows.{led}
 use Rattle.text.proofs.Places.{char8-end, char8-ascii, char8-row, char8-none}
 use Rattle.text.proofs.utf8.char8_at.Statement.{statement}

@@ -1,9 +1,9 @@
--- `text::utf8::within` meets its contract: the two comparisons are the range's. Assumes nothing.
+-- `text::within` meets its contract: the two comparisons are the range's. Assumes nothing.
 use mathlib.Core.Path.{sym}
 use borrow.Author.Tests.{le-leb}
 use Rattle.format.proofs.Scalars.{between-below}
-use Rattle.text.proofs.utf8.within.Statement.{statement}
-use Rattle.text.proofs.utf8.within.Tie as tie
+use Rattle.text.proofs.within.Statement.{statement}
+use Rattle.text.proofs.within.Tie as tie
 
 returns : tie.Need-returns
 returns c = let a = c .before .args in sym (between-below (a .low) (a .high) (a .n) (c .if1 .taken))
