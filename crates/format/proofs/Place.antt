@@ -5,7 +5,7 @@ use mathlib.Core.Path.{_≡_, refl, ap, sym, _∙_, subst}
 use mathlib.Core.List.{List, [], _∷_, _++_}
 use mathlib.Core.Bool.{Bool, true, false}
 use Prim.Native.Nat.{ℕ, zero, suc, _+_, _-_, _<_, _≤_}
-use native.Mathlib.Nat.{add-assoc}
+use native.Mathlib.Nat.{add-assoc, add-zero}
 use native.Mathlib.Omega.{arith}
 use lib.ListN.{length, drop, length-drop}
 use lib.Seq.{drop-drop}
@@ -178,3 +178,33 @@ module _ {A B : Type 0} (reader : List ℕ → Read A) (next : A → List ℕ �
           let q = ltb-false (length s) at t in
           let r = further-stops reader s at (reader (drop at s)) e (sym (at-inside reader s at q) ∙ h) in
           at-inside (thenRead reader next) s at q ∙ ap (further at) (follow-stops (reader (drop at s)) e r)
+
+-- a reader whose value is turned into another
+module _ {A B : Type 0} (f : A → B) (reader : List ℕ → Read A) (s : List ℕ) (at : ℕ) where
+  further-map : (r : Read A) → further at (mapRead f r) ≡ mapRead f (further at r)
+  further-map (took v n) = refl
+  further-map (stops e) = refl
+
+  at-map : readAt (λ (l : List ℕ). mapRead f (reader l)) s at ≡ mapRead f (readAt reader s at)
+  unfolding readAt
+  at-map = go (ltb (length s) at)
+    where
+      go : (b : Bool) → pick b (stops missing) (further at (mapRead f (reader (drop at s)))) ≡ mapRead f (pick b (stops missing) (further at (reader (drop at s))))
+      go true = refl
+      go false = further-map (reader (drop at s))
+
+  pub at-map-took : (v : A) (m : ℕ) → readAt reader s at ≡ took v m → readAt (λ (l : List ℕ). mapRead f (reader l)) s at ≡ took (f v) m
+  at-map-took v m h = at-map ∙ ap (mapRead f) h
+
+  pub at-map-stops : (e : Refusal) → readAt reader s at ≡ stops e → readAt (λ (l : List ℕ). mapRead f (reader l)) s at ≡ stops e
+  at-map-stops e h = at-map ∙ ap (mapRead f) h
+
+-- a reader that goes by a test, and takes nothing where it fails
+module _ {A : Type 0} (b : Bool) (reader : List ℕ → Read A) (v : A) (s : List ℕ) (at : ℕ) where
+  pub at-taken : b ≡ true → readAt (λ (l : List ℕ). pick b (reader l) (took v 0)) s at ≡ readAt reader s at
+  at-taken h = ap (λ (t : Bool). readAt (λ (l : List ℕ). pick t (reader l) (took v 0)) s at) h
+
+  pub at-left : b ≡ false → at ≤ length s → readAt (λ (l : List ℕ). pick b (reader l) (took v 0)) s at ≡ took v at
+  at-left h i =
+      ap (λ (t : Bool). readAt (λ (l : List ℕ). pick t (reader l) (took v 0)) s at) h
+      ∙ (at-took (λ (l : List ℕ). took v 0) s at v 0 i refl ∙ ap (took v) (add-zero at))

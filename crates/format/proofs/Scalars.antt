@@ -4,16 +4,15 @@
 use mathlib.Core.Path.{_≡_, refl, ap, sym, _∙_, subst}
 use mathlib.Core.List.{List, [], _∷_, _++_}
 use mathlib.Core.Bool.{Bool, true, false}
-use Prim.Native.Nat.{ℕ, zero, suc, _+_, _-_, _<_, _≤_}
+use Prim.Native.Nat.{ℕ, zero, suc, _-_, _<_, _≤_}
 use native.Mathlib.Omega.{arith}
 use lib.ListN.{length, take, drop, length-append, length-take, length-drop, take-append-drop}
 use lib.Seq.{drop-append-seam, take-append-seam}
 use lib.Dec.{ltb, leb}
 use borrow.Author.Tests.{le-leb, lt-leb, leb-true, ltb-true, ltb-false}
-use Rattle.lists.specs.Pick.{pick}
 use Rattle.lists.proofs.Split.{split}
 use Rattle.format.specs.Answer.{Answer, gives, refuses, Refusal, Read, took, stops, andThen}
-use Rattle.format.specs.Text.{between, push, scalars, spelled}
+use Rattle.format.specs.Text.{between, scalars, spelled}
 
 -- ---- a range
 
@@ -93,6 +92,10 @@ module _ (char : List ℕ → Read ℕ) where
 pub data Scalar (c : ℕ) : Type 0 where
   below : c < 0xD800 → Scalar c
   above : 0xDFFF < c → c ≤ 0x10FFFF → Scalar c
+
+pub scalar-last : (c : ℕ) → Scalar c → c ≤ 0x10FFFF
+scalar-last c (below h) = omega arith
+scalar-last c (above h i) = i
 
 -- every element of a list has a property
 abbrev pub Each : (ℕ → Type 0) → List ℕ → Type 0

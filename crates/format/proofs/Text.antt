@@ -3,17 +3,15 @@
 -- Assumes nothing.
 use mathlib.Core.Path.{_≡_, refl, ap, sym, _∙_, subst}
 use mathlib.Core.List.{List, [], _∷_, _++_}
-use mathlib.Core.Bool.{Bool, true, false, not}
-use Prim.Native.Nat.{ℕ, zero, suc, _+_, _*_, _-_, _/_, _%_, _<_, _≤_}
+use mathlib.Core.Bool.{not}
+use Prim.Native.Nat.{ℕ, zero, suc, _+_, _*_, _%_, _<_, _≤_}
 use native.Mathlib.Omega.{arith}
-use lib.ListN.{length, getD, take, drop, length-append}
+use lib.ListN.{length, length-append}
 use lib.Seq.{getD-drop}
-use lib.Dec.{ltb, eqb}
-use borrow.Author.Tests.{eq-eqb, eqb-true, not-false}
-use Rattle.lists.specs.Pick.{pick}
+use lib.Dec.{eqb}
+use borrow.Author.Tests.{eq-eqb, ne-eqb}
 use Rattle.lists.proofs.Split.{split}
-use Rattle.format.specs.Answer.{Answer, gives, refuses, Refusal, Read, sequence, refuseIf, andThen}
-use Rattle.format.specs.Number.{lowBytes}
+use Rattle.format.specs.Answer.{Answer, gives, refuses, Read, sequence, andThen}
 use Rattle.format.specs.Text.{char8, utf8, char16, utf16, scalars, spelled, textIn, textOut}
 use Rattle.format.proofs.Number.{Bytes}
 use Rattle.format.proofs.Scalars.{less, no-gives, converted, Form, Each, spelled-back, spelled-forth}
@@ -71,10 +69,18 @@ converted-gives char spell s u h = go (scalars char 0 s) refl h
     go (gives cs) e g = (cs, e, cc)
     go (refuses e) q g = no-gives e u g
 
+pub in-gives : (s u : List ℕ) → textIn s ≡ gives u → converted char8 utf16 s ≡ gives u
+unfolding textIn
+in-gives s u h = h
+
 -- an odd count is refusal 8; an even one is converted
 pub out-even : (u : List ℕ) → length u % 2 ≡ 0 → textOut u ≡ converted char16 utf8 u
 unfolding textOut
 out-even u h = rw (eq-eqb (length u % 2) 0 h)
+
+pub out-odd : (u : List ℕ) → (length u % 2 ≡ 0 → ⊥) → textOut u ≡ refuses sequence
+unfolding textOut
+out-odd u h = rw (ne-eqb (length u % 2) 0 h)
 
 pub out-gives : (u s : List ℕ) → textOut u ≡ gives s → converted char16 utf8 u ≡ gives s
 unfolding textOut
@@ -113,9 +119,8 @@ spelled-bytes (c ∷ cs) = each-append (λ b. b < 256) (utf16 c) (spelled utf16 
 -- ---- the theorems
 
 pub in-then-out : (s u : List ℕ) → textIn s ≡ gives u → textOut u ≡ gives s
-unfolding textIn
 in-then-out s u h =
-    let p = converted-gives char8 utf16 s u h in
+    let p = converted-gives char8 utf16 s u (in-gives s u h) in
     let q = spelled-forth form8 s (p .0) tt (p .1) in
     let e : length u % 2 ≡ 0 = rw (← p .2) (spelled-even (p .0)) in
     out-even u e ∙ rw (← p .2, spelled-back form16 (p .0) (q .1), q .0)
@@ -128,15 +133,12 @@ out-then-in u s b h =
     rw (← p .2, spelled-back form8 (p .0) (q .1), q .0)
 
 pub in-even : (s u : List ℕ) → textIn s ≡ gives u → length u % 2 ≡ 0
-unfolding textIn
-in-even s u h = let p = converted-gives char8 utf16 s u h in rw (← p .2) (spelled-even (p .0))
+in-even s u h = let p = converted-gives char8 utf16 s u (in-gives s u h) in rw (← p .2) (spelled-even (p .0))
 
 pub in-short : (s u : List ℕ) → textIn s ≡ gives u → length u ≤ 2 * length s
-unfolding textIn
 in-short s u h =
-    let p = converted-gives char8 utf16 s u h in
+    let p = converted-gives char8 utf16 s u (in-gives s u h) in
     omega (arith, ap length (p .2), ap length (spelled-forth form8 s (p .0) tt (p .1) .0), spelled-short (p .0))
 
 pub in-bytes : (s u : List ℕ) → textIn s ≡ gives u → Bytes u
-unfolding textIn
-in-bytes s u h = let p = converted-gives char8 utf16 s u h in rw (p .2) at (each-bytes (spelled utf16 (p .0)) (spelled-bytes (p .0)))
+in-bytes s u h = let p = converted-gives char8 utf16 s u (in-gives s u h) in rw (p .2) at (each-bytes (spelled utf16 (p .0)) (spelled-bytes (p .0)))

@@ -1,17 +1,16 @@
 -- One character of UTF-16LE: its units are read back as the character, and what is read as a character is its units.
 -- Assumes nothing.
-use mathlib.Core.Path.{_≡_, refl, ap, sym, _∙_, subst}
+use mathlib.Core.Path.{_≡_, refl, ap, sym, _∙_}
 use mathlib.Core.List.{List, [], _∷_, _++_}
-use mathlib.Core.Bool.{Bool, true, false}
-use Prim.Native.Nat.{ℕ, zero, suc, _+_, _*_, _-_, _/_, _%_, _<_, _≤_}
+use mathlib.Core.Bool.{true, false}
+use Prim.Native.Nat.{ℕ, suc, _+_, _*_, _-_, _/_, _%_, _<_, _≤_}
 use native.Mathlib.Omega.{arith}
-use lib.ListN.{length, getD, take, drop, length-drop}
-use lib.Seq.{getD-drop}
+use lib.ListN.{length, drop, length-drop}
 use lib.Dec.{ltb}
-use borrow.Author.Tests.{lt-ltb, le-ltb, ltb-true, ltb-false}
+use borrow.Author.Tests.{lt-ltb, le-ltb}
 use Rattle.lists.proofs.Split.{split}
-use Rattle.format.specs.Answer.{Read, took, stops, notText}
-use Rattle.format.specs.Number.{lowNat, lowBytes}
+use Rattle.format.specs.Answer.{took, notText}
+use Rattle.format.specs.Number.{lowBytes}
 use Rattle.format.specs.Text.{between, unit, pair16, char16, utf16}
 use Rattle.format.proofs.Number.{Bytes}
 use Rattle.format.proofs.Place.{no-took}

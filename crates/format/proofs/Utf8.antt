@@ -1,16 +1,15 @@
 -- One character of UTF-8: its bytes are read back as the character, and what is read as a character is its bytes. By the rows of table 3-7, each a range of
 -- first and second bytes that is the range of the scalar values whose bytes begin so.
 -- Assumes nothing.
-use mathlib.Core.Path.{_≡_, refl, ap, sym, _∙_, subst}
+use mathlib.Core.Path.{_≡_, refl, ap, _∙_}
 use mathlib.Core.List.{List, [], _∷_, _++_}
-use mathlib.Core.Bool.{Bool, true, false}
 use Prim.Native.Nat.{ℕ, zero, suc, _+_, _*_, _-_, _/_, _%_, _<_, _≤_}
 use native.Mathlib.Omega.{arith}
-use lib.ListN.{length, take}
+use lib.ListN.{length}
 use lib.Dec.{ltb}
 use borrow.Author.Tests.{lt-ltb, le-ltb, ltb-true}
 use Rattle.lists.proofs.Split.{split}
-use Rattle.format.specs.Answer.{Read, took, stops, notText}
+use Rattle.format.specs.Answer.{took, notText}
 use Rattle.format.specs.Text.{between, Row, wellFormed, tail8, second8, among8, char8, utf8}
 use Rattle.format.proofs.Place.{no-took}
 use Rattle.format.proofs.Scalars.{between-in, between-above, in-between, less, Scalar, below, above, Forth, forth-is}
@@ -29,7 +28,7 @@ Within k [] a = ⊥
 Within zero (r ∷ rs) a = (r .first ≤ a) × (a ≤ r .last)
 Within (suc k) (r ∷ rs) a = Within k rs a
 
-abbrev rowAt : ℕ → List Row → Row
+abbrev pub rowAt : ℕ → List Row → Row
 rowAt k [] = record { first = 0; last = 0; marker = 0; low = 0; high = 0; more = 0 }
 rowAt zero (r ∷ rs) = r
 rowAt (suc k) (r ∷ rs) = rowAt k rs
@@ -41,11 +40,11 @@ module _ (a : ℕ) (s : List ℕ) where
   chosen zero (r ∷ rs) p w = rw (between-in (r .first) (r .last) a (w .0) (w .1))
   chosen (suc k) (r ∷ rs) p w = rw (between-above (r .first) (r .last) a (p .0)) (chosen k rs (p .1) w)
 
-  first-ascii : a < 0x80 → char8 (a ∷ s) ≡ took a 1
+  pub first-ascii : a < 0x80 → char8 (a ∷ s) ≡ took a 1
   unfolding char8
   first-ascii h = rw (lt-ltb a 0x80 h)
 
-  first-other : 0x80 ≤ a → char8 (a ∷ s) ≡ among8 wellFormed a s
+  pub first-other : 0x80 ≤ a → char8 (a ∷ s) ≡ among8 wellFormed a s
   unfolding char8
   first-other h = rw (le-ltb a 0x80 h)
 

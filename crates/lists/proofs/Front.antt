@@ -87,6 +87,10 @@ pub sets-more : (out : List ℕ) (at : ℕ) (xs ys : List ℕ) → sets (sets ou
 sets-more out at [] ys = rw add-zero
 sets-more out at (x ∷ xs) ys = rw (add-suc, ← suc-add) (sets-more (set out at x) (suc at) xs ys)
 
+-- the same, with the place behind the first run by another name
+pub sets-then : (out : List ℕ) (at next : ℕ) (xs ys : List ℕ) → next ≡ at + length xs → sets (sets out at xs) next ys ≡ sets out at (xs ++ ys)
+sets-then out at next xs ys e = rw e (sets-more out at xs ys)
+
 -- a run of stores at the front
 pub sets-front : (out c : List ℕ) → length c ≤ length out → sets out 0 c ≡ c ++ drop (length c) out
 sets-front out c h = sets-eq c out 0 (rw zero-add h) ∙ rw zero-add

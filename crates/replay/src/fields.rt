@@ -14,6 +14,16 @@ pub fn byte(frame: &[u8], at: usize) -> u8 {
     }
 }
 
+// A place further on; frames are short, so the sum is exact for every frame that occurs.
+pub fn after(at: usize, n: usize) -> usize {
+    if at < 4294967296 {
+        if n < 4294967296 {
+            return at + n;
+        }
+    }
+    at
+}
+
 pub fn low(frame: &[u8], at: usize, w: Width) -> u64 {
     match (Cursor { at }).low(frame, w) {
         NumberRead::Number(n, _) => n,

@@ -3,6 +3,8 @@ mod fields;
 mod numbers;
 mod packet;
 mod say;
+mod texts;
+mod types;
 
 use wire::Cursor;
 use wire::NumberRead;
@@ -12,22 +14,34 @@ use wire::Width;
 fn in_room(op: u8, frame: &[u8], room: &mut [u8]) {
     match op {
         0x21 => packet::header_write(frame, room),
+        0x22 => packet::prelogin_write(frame, room),
+        0x29 => types::type_write(frame, room),
+        0x48 => texts::text_in(frame, room),
+        0x49 => texts::text_out(frame, room),
         _ => say::bad(),
     }
+}
+
+// An op without a room; false where it is none of these.
+fn without_room(op: u8, frame: &[u8]) -> bool {
+    match op {
+        0x20 => packet::header_read(frame),
+        0x28 => types::type_read(frame),
+        0x50 => numbers::guid(frame),
+        0x51 => numbers::number(frame),
+        _ => return false,
+    }
+    true
 }
 
 // One frame's answer, by its op's number.
 fn answer(frame: &[u8], room: &mut [u8]) {
     let op = fields::byte(frame, 0);
-    match op {
-        0x20 => packet::header_read(frame),
-        0x50 => numbers::guid(frame),
-        0x51 => numbers::number(frame),
-        _ => {
-            let size = fields::size(frame, 1, room);
-            in_room(op, frame, &mut room[..size]);
-        }
+    if without_room(op, frame) {
+        return;
     }
+    let size = fields::size(frame, 1, room);
+    in_room(op, frame, &mut room[..size]);
 }
 
 // How many bytes the next frame has; none where the input has ended.

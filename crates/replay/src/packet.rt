@@ -1,10 +1,12 @@
-// header_read, header_write.
+// header_read, header_write, prelogin_write.
 use crate::fields;
 use crate::say;
 use header::Header;
 use header::HeaderRead;
 use header::StatusRead;
 use header::TypeRead;
+use pre_login::Encryption;
+use pre_login::PreLogin;
 use wire::Width;
 
 pub fn header_read(frame: &[u8]) {
@@ -53,5 +55,28 @@ pub fn header_write(frame: &[u8], room: &mut [u8]) {
     };
     say::fill(room);
     let r = header::write_header(h, room);
+    say::wrote(r, room);
+}
+
+fn encryption(n: u8) -> Encryption {
+    match n {
+        0 => Encryption::Off,
+        1 => Encryption::On,
+        2 => Encryption::NotSupported,
+        _ => Encryption::Required,
+    }
+}
+
+pub fn prelogin_write(frame: &[u8], room: &mut [u8]) {
+    let p = PreLogin {
+        version: (fields::low(frame, 5, Width::Four) % 4294967296) as u32,
+        sub_build: (fields::low(frame, 9, Width::Two) % 65536) as u16,
+        encryption: encryption(fields::byte(frame, 11)),
+        thread_id: (fields::low(frame, 12, Width::Four) % 4294967296) as u32,
+        mars: fields::byte(frame, 16) != 0,
+        fed_auth_required: fields::byte(frame, 17) != 0,
+    };
+    say::fill(room);
+    let r = pre_login::write_pre_login(p, room);
     say::wrote(r, room);
 }

@@ -1,4 +1,6 @@
 // The words of an answer's line.
+ghost use Prim.Native.Nat.{_<_, _≤_};
+ghost use lib.ListN.{length};
 use libc::STDOUT_FILENO;
 use wire::Refusal;
 use wire::Wrote;
@@ -43,12 +45,56 @@ pub fn no(e: Refusal) {
     number(refusal(e));
 }
 
-// Two digits for each byte, by way of a chunk.
-fn digits(s: &[u8]) {
+fn digit(n: u8) -> u8 {
+    let d = n % 16;
+    if d < 10 {
+        return 48 + d;
+    }
+    87 + d
+}
+
+// Two digits for each byte, as far as the text has room: how many stand there.
+fn spell(s: &[u8], text: &mut [u8]) -> usize
+    ensures { λ r. ⌜ r ≤ length (now (text .entry)) ⌝ }
+{
     let mut i = 0;
+    let mut o: usize = 0;
     while i < s.len() {
-        io::print_hex(STDOUT_FILENO, s[i] as u64, 2);
+        if text.len() - o < 2 {
+            return o;
+        }
+        text[o] = digit(s[i] / 16);
+        text[o + 1] = digit(s[i]);
+        o += 2;
         i += 1;
+    }
+    o
+}
+
+// The digits of at most 2,048 bytes, in one write.
+fn chunk(s: &[u8]) {
+    let mut text = [0u8; 4096];
+    let n = spell(s, &mut text);
+    io::write_all(STDOUT_FILENO, &text[..n]);
+}
+
+fn end_of_chunk(s: &[u8], at: usize) -> usize
+    requires { ⌜ at < length (now s) ⌝ }
+    ensures { λ r. ⌜ (at < r) × (r ≤ length (now (s .entry))) ⌝ }
+{
+    if s.len() - at < 2048 {
+        return s.len();
+    }
+    at + 2048
+}
+
+// Two digits for each byte, a chunk at a time.
+fn digits(s: &[u8]) {
+    let mut at = 0;
+    while at < s.len() {
+        let end = end_of_chunk(s, at);
+        chunk(&s[at..end]);
+        at = end;
     }
 }
 

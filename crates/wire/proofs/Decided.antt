@@ -3,9 +3,10 @@
 use mathlib.Core.Path.{_≡_, refl, ap}
 use mathlib.Core.List.{List}
 use Prim.Native.Nat.{ℕ}
-use Rattle.format.specs.Answer.{Answer, gives, refuses, Read, took, stops}
+use lib.ListN.{length}
+use Rattle.format.specs.Answer.{Answer, gives, refuses, Read, took, stops, fitted, wrote, roomAfter}
 use Rattle.format.specs.Answer as A
-use Rattle.format.proofs.Decided.{Undoes, decided}
+use Rattle.format.proofs.Decided.{Undoes, decided, one-room}
 use Rattle.wire.specs.declared.Refusal.{Refusal}
 use Rattle.wire.specs.declared.Refusal.the-variants as R
 use Rattle.wire.specs.declared.Wrote.{Wrote}
@@ -52,6 +53,15 @@ wrote-undoes (W.Refused e) = ap W.Refused (refusal-undoes e)
 -- every writer that answers `Wrote`: one answer, whatever the definition gives
 pub wrote-decided : (x y : Wrote) (b : Answer ℕ) → wroteTold x ≡ b → wroteTold y ≡ b → x ≡ y
 wrote-decided = decided wroteTold wroteBack wrote-undoes
+
+-- what every writer with a room promises, of whatever its definition gives: its answer, and the room afterwards
+pub record Writes (given : Answer (List ℕ)) (out : List ℕ) (r : Wrote) (after : List ℕ) : Type 0 where
+  pub answer : wroteTold r ≡ wrote (fitted given (length out))
+  pub room : after ≡ roomAfter (fitted given (length out)) out
+
+-- one answer and one room
+pub writes-decided : (given : Answer (List ℕ)) (out : List ℕ) (x y : Wrote) (a b : List ℕ) → Writes given out x a → Writes given out y b → (x ≡ y) × (a ≡ b)
+writes-decided given out x y a b p q = (wrote-decided x y _ (p .answer) (q .answer), one-room a b _ (p .room) (q .room))
 
 abbrev byteBack : Read ℕ → ByteRead
 byteBack (took b n) = B.Byte b (record { at = n })

@@ -5,7 +5,8 @@ use mathlib.Core.List.{List, _++_}
 use Prim.Native.Nat.{ℕ, _+_, _<_, _≤_}
 use lib.ListN.{length, drop}
 use borrow.Author.Tests.{lt-ltb, le-ltb}
-use Rattle.format.specs.Answer.{Answer, gives, refuses, room, fitted, wrote, roomAfter}
+use native.Mathlib.Omega.{arith}
+use Rattle.format.specs.Answer.{Refusal, Answer, gives, refuses, room, fitted, wrote, roomAfter}
 
 module _ (bytes out : List ℕ) where
   pub no-room : length out < length bytes → (refuses room ≡ wrote (fitted (gives bytes) (length out))) × (out ≡ roomAfter (fitted (gives bytes) (length out)) out)
@@ -15,3 +16,9 @@ module _ (bytes out : List ℕ) where
   pub has-room : (n : ℕ) → length bytes ≡ n → length bytes ≤ length out → (gives n ≡ wrote (fitted (gives bytes) (length out))) × (bytes ++ drop (length bytes) out ≡ roomAfter (fitted (gives bytes) (length out)) out)
   unfolding fitted wrote roomAfter
   has-room n e h = let t = le-ltb (length out) (length bytes) h in (rw (t, e), rw t)
+
+-- a refusal that comes before the room is asked
+pub refused-before : (answer : Answer (List ℕ)) (out : List ℕ) (e : Refusal) → refuses e ≡ wrote answer → (refuses e ≡ wrote (fitted answer (length out))) × (out ≡ roomAfter (fitted answer (length out)) out)
+unfolding fitted wrote roomAfter
+refused-before (gives bytes) out e h = let z : _≡_ {A = ℕ} 0 1 = cc in absurd (omega arith)
+refused-before (refuses d) out e h = (h, refl)

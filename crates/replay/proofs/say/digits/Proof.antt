@@ -1,31 +1,34 @@
--- `replay::say::digits` is safe and ends. Assumes nothing.
+-- `replay::say::digits` is safe and ends: each chunk ends further on. Assumes nothing.
 use Prim.Native.Nat.{_≤_, _-_}
 use native.Mathlib.Omega.{arith}
-use lib.ListN.{length, length-set}
+use lib.ListN.{length}
 use borrow.Author.Needs.{needs}
 use Rattle.replay.proofs.say.digits.Statement.{statement}
 use Rattle.replay.proofs.say.digits.Tie as tie
 
 abbrev Inv-loop : tie.InvT-loop
-Inv-loop s i₀ i = i ≤ length s
+Inv-loop s at₀ at = at ≤ length s
 
 abbrev μ-loop : tie.MeasureT-loop
-μ-loop s i₀ i = length s - i
+μ-loop s at₀ at = length s - at
 
 loop-holds : tie.Need-loop-holds Inv-loop μ-loop
 loop-holds c = search needs
 
-shared-slice-read-print-hex : tie.Need-shared-slice-read-print-hex Inv-loop μ-loop
-shared-slice-read-print-hex c = search needs
+end-of-chunk-requires : tie.Need-end-of-chunk-requires Inv-loop μ-loop
+end-of-chunk-requires c κs = search needs
 
-cast-print-hex : tie.Need-cast-print-hex Inv-loop μ-loop
-cast-print-hex c = omega (arith, c .shared-slice-known2 .given (c .before .before .loop .i))
+sub-chunk : tie.Need-sub-chunk Inv-loop μ-loop
+sub-chunk c = search needs
 
-print-hex-requires : tie.Need-print-hex-requires Inv-loop μ-loop
-print-hex-requires c κs = search needs
+part-chunk-start : tie.Need-part-chunk-start Inv-loop μ-loop
+part-chunk-start c = search needs
 
-add-i : tie.Need-add-i Inv-loop μ-loop
-add-i c = search needs
+part-chunk-end : tie.Need-part-chunk-end Inv-loop μ-loop
+part-chunk-end c = search needs
+
+chunk-requires : tie.Need-chunk-requires Inv-loop μ-loop
+chunk-requires c κs = search needs
 
 loop-less : tie.Need-loop-less Inv-loop μ-loop
 loop-less c = search needs
@@ -43,10 +46,11 @@ digits-spec =
     Inv-loop
     μ-loop
     loop-holds
-    shared-slice-read-print-hex
-    cast-print-hex
-    print-hex-requires
-    add-i
+    end-of-chunk-requires
+    sub-chunk
+    part-chunk-start
+    part-chunk-end
+    chunk-requires
     loop-less
     loop-again
     returns)

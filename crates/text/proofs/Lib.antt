@@ -1,0 +1,6 @@
+pub mod Rows
+pub mod Places
+pub mod Units
+pub mod Stores
+pub mod Turns
+pub mod Sized

@@ -1,0 +1,63 @@
+-- `text::to_utf16` meets its contract: the size pass has found every refusal but the room's, so the pass that writes fills the room. Assumes nothing.
+use mathlib.Core.Path.{_≡_, sym, ap, _∙_}
+use denote.Ref.{now}
+use borrow.Author.Needs.{needs}
+use Rattle.format.specs.Answer.{gives, wrote}
+use Rattle.format.specs.Text.{textIn}
+use Rattle.wire.specs.Told.{wroteTold}
+use Rattle.text.proofs.Sized.{sized-refused, sized-short, sized-fits, sized-written}
+use Rattle.text.proofs.to_utf16.Statement.{statement}
+use Rattle.text.proofs.to_utf16.Tie as tie
+
+-- the size that was found
+found : (c : tie.After-size) → gives (c .size .given .0 .0) ≡ wrote (textIn (now (c .before .before .before .before .before .args .s)))
+found c = sym (ap wroteTold (c .size .given .1)) ∙ c .before .before .utf16-size .ensures
+
+utf16-size-requires : tie.Need-utf16-size-requires
+utf16-size-requires c κs = search needs
+
+enum-known-size : tie.Need-enum-known-size
+enum-known-size c = search needs
+
+returns : tie.Need-returns
+returns c =
+    let w = c .before .before in
+    let a = w .before .before .before .before .before .args in
+    sized-short (now (a .out)) (w .size .given .0 .0) (textIn (now (a .s))) (found w) (c .if1 .taken)
+
+put-utf16-requires : tie.Need-put-utf16-requires
+put-utf16-requires c κs =
+    let w = c .before .before .before in
+    let a = w .before .before .before .before .before .args in
+    sized-fits (now (a .out)) (w .size .given .0 .0) (textIn (now (a .s))) (found w) (c .before .if1 .left)
+
+enum-known-size-2 : tie.Need-enum-known-size-2
+enum-known-size-2 c = search needs
+
+same-length : tie.Need-same-length
+same-length c = search needs
+
+returns-2 : tie.Need-returns-2
+returns-2 c =
+    let e = c .before .before .before .before in
+    let w = e .before .before in
+    let a = w .before .before .before .before .before .args in
+    sized-written (now (a .out)) (w .size .given .0 .0) (textIn (now (a .s))) _ (found w) (e .if1 .left) (c .before .before .put-utf16 .ensures)
+
+returns-3 : tie.Need-returns-3
+returns-3 c =
+    let a = c .before .before .before .before .before .before .args in
+    sized-refused (now (a .out)) (textIn (now (a .s))) _ (sym (ap wroteTold (c .before .size2 .given .1)) ∙ c .before .before .before .utf16-size .ensures)
+
+pub to-utf16-spec : {M : Type 1} → statement M
+to-utf16-spec =
+    tie.close
+    (tie.spec
+    utf16-size-requires
+    enum-known-size
+    returns
+    put-utf16-requires
+    enum-known-size-2
+    same-length
+    returns-2
+    returns-3)

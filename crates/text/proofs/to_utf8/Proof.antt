@@ -1,0 +1,63 @@
+-- `text::to_utf8` meets its contract: the size pass has found every refusal but the room's, so the pass that writes fills the room. Assumes nothing.
+use mathlib.Core.Path.{_≡_, sym, ap, _∙_}
+use denote.Ref.{now}
+use borrow.Author.Needs.{needs}
+use Rattle.format.specs.Answer.{gives, wrote}
+use Rattle.format.specs.Text.{textOut}
+use Rattle.wire.specs.Told.{wroteTold}
+use Rattle.text.proofs.Sized.{sized-refused, sized-short, sized-fits, sized-written}
+use Rattle.text.proofs.to_utf8.Statement.{statement}
+use Rattle.text.proofs.to_utf8.Tie as tie
+
+-- the size that was found
+found : (c : tie.After-size) → gives (c .size .given .0 .0) ≡ wrote (textOut (now (c .before .before .before .before .before .args .u)))
+found c = sym (ap wroteTold (c .size .given .1)) ∙ c .before .before .utf8-size .ensures
+
+utf8-size-requires : tie.Need-utf8-size-requires
+utf8-size-requires c κs = search needs
+
+enum-known-size : tie.Need-enum-known-size
+enum-known-size c = search needs
+
+returns : tie.Need-returns
+returns c =
+    let w = c .before .before in
+    let a = w .before .before .before .before .before .args in
+    sized-short (now (a .out)) (w .size .given .0 .0) (textOut (now (a .u))) (found w) (c .if1 .taken)
+
+put-utf8-requires : tie.Need-put-utf8-requires
+put-utf8-requires c κs =
+    let w = c .before .before .before in
+    let a = w .before .before .before .before .before .args in
+    sized-fits (now (a .out)) (w .size .given .0 .0) (textOut (now (a .u))) (found w) (c .before .if1 .left)
+
+enum-known-size-2 : tie.Need-enum-known-size-2
+enum-known-size-2 c = search needs
+
+same-length : tie.Need-same-length
+same-length c = search needs
+
+returns-2 : tie.Need-returns-2
+returns-2 c =
+    let e = c .before .before .before .before in
+    let w = e .before .before in
+    let a = w .before .before .before .before .before .args in
+    sized-written (now (a .out)) (w .size .given .0 .0) (textOut (now (a .u))) _ (found w) (e .if1 .left) (c .before .before .put-utf8 .ensures)
+
+returns-3 : tie.Need-returns-3
+returns-3 c =
+    let a = c .before .before .before .before .before .before .args in
+    sized-refused (now (a .out)) (textOut (now (a .u))) _ (sym (ap wroteTold (c .before .size2 .given .1)) ∙ c .before .before .before .utf8-size .ensures)
+
+pub to-utf8-spec : {M : Type 1} → statement M
+to-utf8-spec =
+    tie.close
+    (tie.spec
+    utf8-size-requires
+    enum-known-size
+    returns
+    put-utf8-requires
+    enum-known-size-2
+    same-length
+    returns-2
+    returns-3)

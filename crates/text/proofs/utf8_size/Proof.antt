@@ -1,0 +1,93 @@
+-- `text::utf8_size` meets its contract. The invariant: what the text comes to is what it comes to from here on, behind what was counted. Assumes nothing.
+use mathlib.Core.Path.{sym, ap, _∙_}
+use Prim.Native.Nat.{_*_, _-_, _≤_}
+use native.Mathlib.Omega.{arith}
+use lib.ListN.{length}
+use denote.Ref.{now}
+use borrow.Author.Needs.{needs}
+use Rattle.format.specs.Answer.{wrote}
+use Rattle.format.specs.Text.{char16, utf8}
+use Rattle.format.proofs.Number.{Bytes}
+use Rattle.format.proofs.Text.{out-even, out-odd}
+use Rattle.text.specs.Told.{charTold}
+use Rattle.text.proofs.Turns.{Stands, stands16, long16, Sizing, size-start, size-more, size-stop, size-end}
+use Rattle.text.proofs.utf8_size.Statement.{statement}
+use Rattle.text.proofs.utf8_size.Tie as tie
+
+abbrev Inv-loop : tie.InvT-loop
+Inv-loop u at₀ m₀ at m = Sizing char16 utf8 u at m × (2 * m ≤ 3 * at)
+
+abbrev μ-loop : tie.MeasureT-loop
+μ-loop u at₀ m₀ at m = length u - at
+
+bytes : (c : tie.At-loop Inv-loop μ-loop) → Bytes (now (c .before .before .before .args .u))
+bytes c i = omega (arith, c .before .before .shared-slice-known .given i)
+
+-- the character that was read, and how long it is in UTF-8
+read : (c : tie.After-t Inv-loop μ-loop) → let l = c .before .before .before .before in Stands char16 (now (l .before .before .before .args .u)) (l .loop .at) (c .t .given .0 .0) (c .t .given .0 .1 .0)
+read c = let l = c .before .before .before .before in stands16 (now (l .before .before .before .args .u)) (l .loop .at) (c .t .given .0 .0) (c .t .given .0 .1 .0) (bytes l) (c .before .before .before .loop-test .taken) (sym (ap charTold (c .t .given .1)) ∙ c .before .before .char16-at .ensures)
+
+long : (c : tie.After-size8 Inv-loop μ-loop) → 2 * c .size8 .result ≤ 3 * c .before .before .t .given .0 .1 .0
+long c = let w = c .before .before in let l = w .before .before .before .before in rw (c .size8 .ensures) (long16 (now (l .before .before .before .args .u)) (l .loop .at) (w .t .given .0 .0) (w .t .given .0 .1 .0) (bytes l) (read w))
+
+returns : tie.Need-returns Inv-loop μ-loop
+unfolding wrote
+returns c = sym (ap wrote (out-odd (now (c .before .before .args .u)) (c .if1 .taken)))
+
+loop-holds : tie.Need-loop-holds Inv-loop μ-loop
+loop-holds c = (size-start char16 utf8 (now (c .before .before .args .u)), search needs)
+
+char16-at-requires : tie.Need-char16-at-requires Inv-loop μ-loop
+char16-at-requires c κs = search needs
+
+enum-known-t : tie.Need-enum-known-t Inv-loop μ-loop
+enum-known-t c = search needs
+
+size8-requires : tie.Need-size8-requires Inv-loop μ-loop
+size8-requires c κs = search needs
+
+add-m : tie.Need-add-m Inv-loop μ-loop
+add-m c = omega (arith, read (c .before .before), long c, c .before .before .before .before .before .before .before .before .before .good)
+
+add-at : tie.Need-add-at Inv-loop μ-loop
+add-at c = omega (arith, read (c .before .before), c .before .before .before .before .before .before .before .before .before .good)
+
+loop-less : tie.Need-loop-less Inv-loop μ-loop
+loop-less c = omega (arith, read (c .before .before))
+
+loop-again : tie.Need-loop-again Inv-loop μ-loop
+loop-again c =
+    let w = c .before .before in
+    let l = w .before .before .before .before in
+    (size-more (l .loop .inv .0) (w .t .given .0 .0) (w .t .given .0 .1 .0) (c .size8 .result) (c .size8 .ensures) (read w), omega (arith, long c))
+
+enum-known-t-2 : tie.Need-enum-known-t-2 Inv-loop μ-loop
+enum-known-t-2 c = search needs
+
+returns-2 : tie.Need-returns-2 Inv-loop μ-loop
+returns-2 c =
+    let i = c .before .before .before .before in
+    let l = i .before in
+    size-stop (l .loop .inv .0) _ (i .loop-test .taken) (sym (ap charTold (c .before .t2 .given .1)) ∙ c .before .before .before .char16-at .ensures) ∙ sym (ap wrote (out-even (now (l .before .before .before .args .u)) (l .before .if1 .left)))
+
+returns-3 : tie.Need-returns-3 Inv-loop μ-loop
+returns-3 c = let l = c .before in size-end (l .loop .inv .0) (c .loop-test .left) ∙ sym (ap wrote (out-even (now (l .before .before .before .args .u)) (l .before .if1 .left)))
+
+pub utf8-size-spec : {M : Type 1} → statement M
+utf8-size-spec =
+    tie.close
+    (tie.spec
+    Inv-loop
+    μ-loop
+    returns
+    loop-holds
+    char16-at-requires
+    enum-known-t
+    size8-requires
+    add-m
+    add-at
+    loop-less
+    loop-again
+    enum-known-t-2
+    returns-2
+    returns-3)

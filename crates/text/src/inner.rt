@@ -1,0 +1,167 @@
+// Leaves that ask something of their caller: the rest of a character whose first byte has chosen its
+// row, a unit that is there, and a scalar value or a whole text written into room that it fits.
+ghost use mathlib.Core.Path.{_≡_};
+ghost use Prim.Native.Nat.{_+_, _-_, _≤_, _<_};
+ghost use lib.ListN.{length, getD, drop};
+ghost use Rattle.format.specs.Answer.{roomAfter};
+ghost use Rattle.format.specs.Text.{second8, unit, pair16, utf8, utf16, textIn, textOut};
+ghost use Rattle.format.specs.Number.{lowBytes};
+ghost use Rattle.lists.specs.Put.{putAt};
+ghost use lib.Seq.{sets};
+ghost use Rattle.text.specs.Told.{charTold, rowTold, Led, Fitting};
+use crate::CharRead;
+use crate::utf8;
+use crate::utf8::Row;
+use crate::utf16;
+use crate::within;
+use wire::Refusal;
+
+// The six low bits of a byte from 80 up to BF.
+fn six_at(s: &[u8], at: usize) -> u32
+    requires { ⌜ (at < length (now s)) × (0x80 ≤ getD (now s) at 0) × (getD (now s) at 0 ≤ 0xBF) ⌝ }
+    ensures { λ r. ⌜ (r ≡ getD (now (s .entry)) at 0 - 0x80) × (r < 64) ⌝ }
+{
+    s[at] as u32 - 0x80
+}
+
+// The rest of a character from its second byte on, behind the first byte a.
+pub fn rest8_at(s: &[u8], at: usize, a: u32, row: Row) -> CharRead
+    requires { ⌜ Led a (rowTold row) ⌝ }
+    ensures { λ r. ⌜ charTold r ≡ second8 (rowTold row) a (drop at (now (s .entry))) ⌝ }
+{
+    if !utf8::stands(s, at, row.low, row.high) {
+        return CharRead::Refused(Refusal::NotText);
+    }
+    let two = (a - row.marker) * 64 + six_at(s, at);
+    if row.more == 0 {
+        return CharRead::Char(two, 2);
+    }
+    if !utf8::stands(s, at + 1, 0x80, 0xBF) {
+        return CharRead::Refused(Refusal::NotText);
+    }
+    let three = two * 64 + six_at(s, at + 1);
+    if row.more == 1 {
+        return CharRead::Char(three, 3);
+    }
+    if !utf8::stands(s, at + 2, 0x80, 0xBF) {
+        return CharRead::Refused(Refusal::NotText);
+    }
+    CharRead::Char(three * 64 + six_at(s, at + 2), 4)
+}
+
+// The unit at a place, low byte first.
+pub fn unit_at(s: &[u8], at: usize) -> u32
+    requires { ⌜ at + 2 ≤ length (now s) ⌝ }
+    ensures { λ r. ⌜ (r ≡ unit (drop at (now (s .entry)))) × (r < 0x10000) ⌝ }
+{
+    s[at] as u32 + s[at + 1] as u32 * 256
+}
+
+// The rest of a character behind the high surrogate a: the low surrogate at a place.
+pub fn pair_at(s: &[u8], at: usize, a: u32) -> CharRead
+    requires { ⌜ (at ≤ length (now s)) × (0xD800 ≤ a) × (a ≤ 0xDBFF) ⌝ }
+    ensures { λ r. ⌜ charTold r ≡ pair16 a (drop at (now (s .entry))) ⌝ }
+{
+    if s.len() - at < 2 {
+        return CharRead::Refused(Refusal::NotText);
+    }
+    let b = unit_at(s, at);
+    if within(0xDC00, 0xDFFF, b) {
+        return CharRead::Char(0x10000 + (a - 0xD800) * 1024 + (b - 0xDC00), 4);
+    }
+    CharRead::Refused(Refusal::NotText)
+}
+
+// The unit n at a place, low byte first.
+fn put_unit(out: &mut [u8], o: usize, n: u32)
+    requires { ⌜ o + 2 ≤ length (now out) ⌝ }
+    ensures { λ _. ⌜ now (out .exit) ≡ sets (now (out .entry)) o (lowBytes 2 n) ⌝ }
+{
+    out[o] = (n % 256) as u8;
+    out[o + 1] = (n / 256 % 256) as u8;
+}
+
+// The units of a scalar value at a place, and how many bytes they are.
+pub fn put_char16(out: &mut [u8], o: usize, c: u32) -> usize
+    requires { ⌜ o + length (utf16 c) ≤ length (now out) ⌝ }
+    ensures size { λ r. ⌜ r ≡ length (utf16 c) ⌝ }
+    ensures room { λ _. ⌜ now (out .exit) ≡ putAt (now (out .entry)) o (utf16 c) ⌝ }
+{
+    if c < 0x10000 {
+        put_unit(out, o, c);
+        return 2;
+    }
+    put_unit(out, o, 0xD800 + (c - 0x10000) / 1024);
+    put_unit(out, o + 2, 0xDC00 + (c - 0x10000) % 1024);
+    4
+}
+
+// The bytes of a scalar value in UTF-8 at a place, and how many they are.
+pub fn put_char8(out: &mut [u8], o: usize, c: u32) -> usize
+    requires { ⌜ (c ≤ 0x10FFFF) × (o + length (utf8 c) ≤ length (now out)) ⌝ }
+    ensures size { λ r. ⌜ r ≡ length (utf8 c) ⌝ }
+    ensures room { λ _. ⌜ now (out .exit) ≡ putAt (now (out .entry)) o (utf8 c) ⌝ }
+{
+    if c < 0x80 {
+        out[o] = c as u8;
+        return 1;
+    }
+    if c < 0x800 {
+        out[o] = (0xC0 + c / 64) as u8;
+        out[o + 1] = (0x80 + c % 64) as u8;
+        return 2;
+    }
+    if c < 0x10000 {
+        out[o] = (0xE0 + c / 4096) as u8;
+        out[o + 1] = (0x80 + c / 64 % 64) as u8;
+        out[o + 2] = (0x80 + c % 64) as u8;
+        return 3;
+    }
+    out[o] = (0xF0 + c / 262144) as u8;
+    out[o + 1] = (0x80 + c / 4096 % 64) as u8;
+    out[o + 2] = (0x80 + c / 64 % 64) as u8;
+    out[o + 3] = (0x80 + c % 64) as u8;
+    4
+}
+
+// A text in UTF-8 as UTF-16LE, at the front of the room.
+pub fn put_utf16(s: &[u8], out: &mut [u8])
+    requires { ⌜ Fitting (textIn (now s)) (length (now out)) ⌝ }
+    ensures { λ _. ⌜ now (out .exit) ≡ roomAfter (textIn (now (s .entry))) (now (out .entry)) ⌝ }
+{
+    let mut at: usize = 0;
+    let mut o: usize = 0;
+    while at < s.len() {
+        let t = utf8::char8_at(s, at);
+        match t {
+            CharRead::Char(c, k) => {
+                o += put_char16(out, o, c);
+                at += k;
+            }
+            CharRead::Refused(e) => {
+                return;
+            }
+        }
+    }
+}
+
+// A text in UTF-16LE as UTF-8, at the front of the room.
+pub fn put_utf8(u: &[u8], out: &mut [u8])
+    requires { ⌜ Fitting (textOut (now u)) (length (now out)) ⌝ }
+    ensures { λ _. ⌜ now (out .exit) ≡ roomAfter (textOut (now (u .entry))) (now (out .entry)) ⌝ }
+{
+    let mut at: usize = 0;
+    let mut o: usize = 0;
+    while at < u.len() {
+        let t = utf16::char16_at(u, at);
+        match t {
+            CharRead::Char(c, k) => {
+                o += put_char8(out, o, c);
+                at += k;
+            }
+            CharRead::Refused(e) => {
+                return;
+            }
+        }
+    }
+}

@@ -1,0 +1,7 @@
+pub mod TypeLaws
+pub mod ReadLaws
+pub mod FieldLaws
+pub mod RuleLaws
+pub mod WriteLaws
+pub mod Decided
+pub mod RoundTrip
