@@ -1,0 +1,48 @@
+-- A value under a column: rule 6 first, then the column's family; a length that keeps the rule fits four bytes.
+-- Assumes nothing.
+use mathlib.Core.Path.{_≡_, refl, sym, ap, _∙_}
+use mathlib.Core.Bool.{Bool, true, false, not}
+use mathlib.Core.List.{List}
+use Prim.Native.Nat.{ℕ, _<_, _^_}
+use native.Mathlib.Omega.{arith}
+use lib.Dec.{ltb, eqb}
+use borrow.Author.Tests.{ltb-true, eqb-true}
+use Rattle.format.specs.Answer.{Answer, gives, refuses, rule, refuseIf, wrote}
+use Rattle.format.specs.Descriptor.{TypeId, fixedLen, byteLen, uShortLen, longLen, daten, xml, udt, ssVariant, Column, both, lengthFits, keepsRule}
+use Rattle.format.specs.Value.{Given, familyOf, writeFamily, writeValue}
+
+first-of : (a b : Bool) → both a b ≡ true → a ≡ true
+first-of true b h = refl
+first-of false b h = h
+
+length-below : (t : TypeId) (n : ℕ) → lengthFits t n ≡ true → n < 256 ^ 4
+length-below (fixedLen t) n h = let e = eqb-true n 0 h in omega arith
+length-below (byteLen t) n h = let e = ltb-true n (256 ^ 1) h in omega arith
+length-below (uShortLen t) n h = let e = ltb-true n (256 ^ 2) h in omega arith
+length-below (longLen t) n h = ltb-true n (256 ^ 4) h
+length-below daten n h = let e = eqb-true n 3 h in omega arith
+length-below xml n h = let e = eqb-true n 0 h in omega arith
+length-below udt n h = let e = eqb-true n 0 h in omega arith
+length-below ssVariant n h = let e = eqb-true n 0 h in omega arith
+
+module _ (c : Column) where
+  pub length-fits : keepsRule c ≡ true → c .length < 256 ^ 4
+  unfolding keepsRule
+  length-fits h = length-below (c .type) (c .length) (first-of (lengthFits (c .type) (c .length)) _ h)
+
+  pub rule-kept : (g : Given) → keepsRule c ≡ true → writeValue c g ≡ writeFamily (c .length) (familyOf (c .type)) g
+  unfolding writeValue
+  rule-kept g h = rw h
+
+  pub rule-broken : (g : Given) → keepsRule c ≡ false → writeValue c g ≡ refuses rule
+  unfolding writeValue
+  rule-broken g h = rw h
+
+  -- what can be written keeps the rule
+  pub written-kept : (g : Given) (n : ℕ) → gives n ≡ wrote (writeValue c g) → keepsRule c ≡ true
+  unfolding writeValue wrote
+  written-kept g n h = go (keepsRule c) refl
+    where
+      go : (b : Bool) → keepsRule c ≡ b → keepsRule c ≡ true
+      go true e = e
+      go false e = let z : _≡_ {A = ℕ} 0 1 = cc (rw e at h) in absurd (omega arith)

@@ -1,0 +1,3 @@
+pub mod ScalarLaws
+pub mod ContentLaws
+pub mod ColumnLaws
