@@ -1,13 +1,11 @@
 -- A value under a column: rule 6 first, then the column's family; a length that keeps the rule fits four bytes.
 -- Assumes nothing.
-use mathlib.Core.Path.{_≡_, refl, sym, ap, _∙_}
-use mathlib.Core.Bool.{Bool, true, false, not}
-use mathlib.Core.List.{List}
+use mathlib.Core.Path.{_≡_, refl}
+use mathlib.Core.Bool.{Bool, true, false}
 use Prim.Native.Nat.{ℕ, _<_, _^_}
 use native.Mathlib.Omega.{arith}
-use lib.Dec.{ltb, eqb}
 use borrow.Author.Tests.{ltb-true, eqb-true}
-use Rattle.format.specs.Answer.{Answer, gives, refuses, rule, refuseIf, wrote}
+use Rattle.format.specs.Answer.{gives, refuses, rule, wrote}
 use Rattle.format.specs.Descriptor.{TypeId, fixedLen, byteLen, uShortLen, longLen, daten, xml, udt, ssVariant, Column, both, lengthFits, keepsRule}
 use Rattle.format.specs.Value.{Given, familyOf, writeFamily, writeValue}
 

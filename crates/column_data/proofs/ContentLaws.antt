@@ -2,19 +2,20 @@
 -- Assumes nothing.
 use mathlib.Core.Path.{_≡_, refl, sym, ap, _∙_}
 use mathlib.Core.Bool.{Bool, true, false, not}
-use mathlib.Core.List.{List, [], _∷_, _++_}
+use mathlib.Core.List.{List, [], _∷_}
 use mathlib.Core.Option.{some}
-use Prim.Native.Nat.{ℕ, _+_, _-_, _*_, _<_, _≤_}
+use Prim.Native.Nat.{ℕ, _+_, _<_, _≤_}
 use native.Mathlib.Omega.{arith}
 use lib.ListN.{length, take, drop, length-append, length-take, length-drop}
 use lib.Dec.{eqb, leb, ltb}
-use borrow.Author.Tests.{lt-ltb, le-ltb, leb-true, leb-false, ltb-true, ltb-false}
+use borrow.Author.Tests.{lt-ltb, le-ltb, leb-true, ltb-true, ltb-false}
 use Rattle.lists.specs.Pick.{pick}
 use Rattle.format.specs.Answer.{Answer, gives, refuses, Refusal, missing, kind, long, refuseIf, andThen, wrote, Part, inside, outside, part}
+use Rattle.format.specs.Number.{lowBytes}
 use Rattle.format.specs.Text.{textIn}
-use Rattle.format.specs.Plp.{plpMark, plpBytes}
+use Rattle.format.specs.Plp.{plpMark, plpNull, plpBytes}
 use Rattle.format.specs.Scalar.{Kind}
-use Rattle.format.specs.Value.{ContentKind, Given, fixedWidth, lengthByte, content, contentBound, encodeContent, bounded, stringOf, writeFamily, untypedLength, untypedBound, untypedText, writeUntyped}
+use Rattle.format.specs.Value.{ContentKind, Given, fixedWidth, lengthByte, content, contentBound, shortNull, encodeContent, bounded, stringOf, writeFamily, untypedText, writeUntyped}
 use Rattle.format.proofs.Text.{in-short}
 use Rattle.column_data.specs.Form.{givenOf, sameContent, encoded, encodedPart, formed, framed, shortUpTo, untypedHead, untypedLimit}
 
@@ -40,6 +41,15 @@ module _ (d : ℕ) (p : Part) where
   other-content ContentKind.binary ContentKind.string h = refl
   other-content ContentKind.string ContentKind.binary h = refl
   other-content ContentKind.string ContentKind.string h = let z : _≡_ {A = ℕ} 0 1 = cc in absurd (omega arith)
+
+-- null in its form
+module _ (d : ℕ) (k : ContentKind) where
+  pub null-plp : eqb d plpMark ≡ true → writeFamily d (some (content k)) Given.null ≡ gives (lowBytes 8 plpNull)
+  unfolding plpBytes
+  null-plp e = rw e
+
+  pub null-short : eqb d plpMark ≡ false → writeFamily d (some (content k)) Given.null ≡ gives (lowBytes 2 shortNull)
+  null-short e = rw e
 
 -- the form goes by the mark
 in-form : (d : ℕ) (c : List ℕ) → encodeContent d (some c) ≡ formed (eqb d plpMark) c
@@ -101,7 +111,7 @@ module _ (buffer : List ℕ) (start count : ℕ) where
   unfolding part
   span-outside h = rw (lt-ltb (length buffer) (start + count) h)
 
-  span-count : start + count ≤ length buffer → length (take count (drop start buffer)) ≡ count
+  pub span-count : start + count ≤ length buffer → length (take count (drop start buffer)) ≡ count
   span-count h = simp (length-take, length-drop) (omega arith)
 
   pub untyped-span : (k : ContentKind) → let b = leb count (shortUpTo k) in writeUntyped (givenOf k (part buffer start count)) ≡ andThen (encodedPart k (part buffer start count)) (framed (untypedHead k b) (not b) (untypedLimit b))

@@ -1,3 +1,6 @@
+pub mod FillLaws
 pub mod ScalarLaws
 pub mod ContentLaws
+pub mod FormLaws
 pub mod ColumnLaws
+pub mod Decided

@@ -1,8 +1,8 @@
 -- The bytes of a value of a fixed width: the low bytes of its number, but for a GUID; as many as its kind is wide.
 -- Assumes nothing.
-use mathlib.Core.Path.{_≡_, refl, sym, ap, _∙_}
+use mathlib.Core.Path.{_≡_, refl, ap, _∙_}
 use mathlib.Core.Bool.{Bool, true, false, not}
-use mathlib.Core.List.{List, [], _∷_}
+use mathlib.Core.List.{List, _∷_}
 use mathlib.Core.Option.{some}
 use Prim.Native.Nat.{ℕ, suc, _+_, _≤_}
 use native.Mathlib.Omega.{arith}
@@ -11,15 +11,17 @@ use lib.Dec.{ltb, lit≤}
 use Rattle.lists.specs.Pick.{pick}
 use Rattle.format.specs.Answer.{Answer, gives, Refusal, kind, long, refuseIf, wrote}
 use Rattle.format.specs.Number.{lowBytes}
+use Rattle.format.specs.Descriptor.{byteLenByte}
 use Rattle.format.specs.Scalar as S
 use Rattle.format.specs.Scalar.{width, kindOf, scalarBytes, sameKind, isOneOf}
-use Rattle.format.specs.Value.{Given, fixedWidth, lengthByte, writeFamily, writeUntyped}
+use Rattle.format.specs.Value.{Given, fixedWidth, lengthByte, writeFamily, untypedType, writeUntyped}
 use Rattle.format.proofs.Scalar.{length-guid}
 use Rattle.wire.specs.declared.Guid.{Guid}
 use Rattle.wire.specs.Told.{guidBytes}
 use Rattle.column_data.specs.declared.Scalar.{Scalar}
 use Rattle.column_data.specs.declared.Scalar.the-variants as C
 use Rattle.column_data.specs.Told.{scalarTold, numberOf}
+use Rattle.column_data.proofs.FillLaws.{check-passed}
 
 -- a list of one
 pub only : (b : Bool) → b ≡ pick b true false
@@ -74,7 +76,22 @@ module _ (d : ℕ) (s : Scalar) where
       wrote-if (not (isOneOf ks (kindOf v))) kind (refuseIf (ltb d (width (kindOf v))) long (gives (width (kindOf v) ∷ scalarBytes v)))
       ∙ ap (refuseIf (not (isOneOf ks (kindOf v))) kind) (wrote-if (ltb d (width (kindOf v))) long (gives (width (kindOf v) ∷ scalarBytes v)) ∙ rw (length-bytes s, n))
 
+  -- what can be written has passed its checks
+  pub fixed-written : (k : S.Kind) (n : ℕ) → gives n ≡ wrote (writeFamily d (some (fixedWidth k)) (Given.scalar (scalarTold s))) → writeFamily d (some (fixedWidth k)) (Given.scalar (scalarTold s)) ≡ gives (scalarBytes (scalarTold s))
+  fixed-written k n h = check-passed (not (sameKind (kindOf (scalarTold s)) k)) kind (gives (scalarBytes (scalarTold s))) n h
+
+  pub listed-written : (ks : List S.Kind) (n : ℕ) → gives n ≡ wrote (writeFamily d (some (lengthByte ks)) (Given.scalar (scalarTold s))) → writeFamily d (some (lengthByte ks)) (Given.scalar (scalarTold s)) ≡ gives (width (kindOf (scalarTold s)) ∷ scalarBytes (scalarTold s))
+  listed-written ks n h =
+      let v = scalarTold s in
+      let long-checked = refuseIf (ltb d (width (kindOf v))) long (gives (width (kindOf v) ∷ scalarBytes v)) in
+      let e = check-passed (not (isOneOf ks (kindOf v))) kind long-checked n h in
+      e ∙ check-passed (ltb d (width (kindOf v))) long (gives (width (kindOf v) ∷ scalarBytes v)) n (h ∙ ap wrote e)
+
 -- ---- without a type
+
+pub untyped-bytes : (s : Scalar) → let v = scalarTold s in writeUntyped (Given.scalar v) ≡ gives (byteLenByte (untypedType (kindOf v)) ∷ width (kindOf v) ∷ width (kindOf v) ∷ scalarBytes v)
+unfolding writeUntyped
+untyped-bytes s = refl
 
 pub untyped-scalar : (s : Scalar) → wrote (writeUntyped (Given.scalar (scalarTold s))) ≡ gives (3 + width (kindOf (scalarTold s)))
 unfolding wrote writeUntyped

@@ -1,11 +1,11 @@
 -- Binary and string content along one path: how content is written, in which form, behind which bytes and within which bound.
 -- Second definitions; proofs/ContentLaws.antt and proofs/UntypedLaws.antt tie them to those of `format`.
 use Prim.Native.Nat.{ℕ}
-use mathlib.Core.List.{List, [], _∷_, _++_}
-use mathlib.Core.Bool.{Bool, true, false, not}
-use mathlib.Core.Option.{Option, none, some}
+use mathlib.Core.List.{List, _∷_, _++_}
+use mathlib.Core.Bool.{Bool, true, false}
+use mathlib.Core.Option.{some}
 use lib.ListN.{length}
-use lib.Dec.{leb, ltb}
+use lib.Dec.{ltb}
 use Rattle.lists.specs.Pick.{pick}
 use Rattle.format.specs.Answer.{Answer, gives, refuses, missing, long, refuseIf, andThen, Part, inside, outside}
 use Rattle.format.specs.Number.{lowBytes}

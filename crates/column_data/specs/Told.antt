@@ -1,7 +1,6 @@
 -- What this crate's declared types tell, in the words of `format`.
 use Prim.Native.Nat.{ℕ}
 use mathlib.Core.List.{List, [], _∷_}
-use mathlib.Core.Bool.{Bool, true, false}
 use mathlib.Core.Option.{Option, none, some}
 use lib.Ieee.{binary32, binary64, toBits}
 use Rattle.lists.specs.Pick.{pick}

@@ -1,6 +1,7 @@
 // The carried types, by the form of their values.
 ghost use mathlib.Core.Path.{_≡_};
-ghost use Rattle.format.specs.Value.{fixedFamily, byteLenFamily, uShortLenFamily, familyOf};
+ghost use Rattle.lists.specs.Pick.{pick};
+ghost use Rattle.format.specs.Value.{untypedLength, fixedFamily, byteLenFamily, uShortLenFamily, familyOf};
 ghost use Rattle.type_info.specs.Told.{fixedTold, byteLenTold, uShortLenTold, typeTold};
 ghost use Rattle.column_data.specs.Told.{familyTold, contentKindTold};
 ghost use Rattle.column_data.specs.Form.{sameContent, shortUpTo, untypedHead};
@@ -81,6 +82,16 @@ pub fn untyped_head(k: ContentKind) -> u8
         ContentKind::Binary => 3,
         ContentKind::String => 8,
     }
+}
+
+// The length that content without a type declares.
+pub fn untyped_length(short: bool) -> u64
+    ensures { λ r. ⌜ r ≡ pick short untypedLength plpMark ⌝ }
+{
+    if short {
+        return 8000;
+    }
+    65535
 }
 
 fn fixed_family(t: FixedLen) -> Family

@@ -1,8 +1,8 @@
 // One column value: what it may be, and its bytes under a type or without one.
-pub mod family;
-pub mod inner;
-pub mod kinds;
-pub mod size;
+mod family;
+mod inner;
+mod kinds;
+mod size;
 
 ghost use mathlib.Core.Path.{_≡_};
 ghost use lib.ListN.{length};
@@ -56,6 +56,31 @@ pub fn value_size(c: Column, v: Value, buffer: &[u8]) -> Wrote
     Wrote::Refused(Refusal::Rule)
 }
 
+// The value under the column, at the front of the room.
+pub fn write_value(c: Column, v: Value, buffer: &[u8], out: &mut [u8]) -> Wrote
+    ensures answer { λ r. ⌜ wroteTold r ≡ wrote (fitted (writeValue (columnTold (now (buffer .entry)) c) (valueTold (now (buffer .entry)) v)) (length (now (out .entry)))) ⌝ }
+    ensures room { λ _. ⌜ now (out .exit) ≡ roomAfter (fitted (writeValue (columnTold (now (buffer .entry)) c) (valueTold (now (buffer .entry)) v)) (length (now (out .entry)))) (now (out .entry)) ⌝ }
+{
+    let needed = value_size(c, v, buffer);
+    match needed {
+        Wrote::Bytes(n) => {
+            if out.len() < n {
+                return Wrote::Refused(Refusal::Room);
+            }
+            let ty = c.ty;
+            inner::fill(
+                family::family_of(ty),
+                c.length as u32,
+                v,
+                buffer,
+                &mut out[..n],
+            );
+            Wrote::Bytes(n)
+        }
+        Wrote::Refused(e) => Wrote::Refused(e),
+    }
+}
+
 // How many bytes the value takes with its own descriptor in front, or why it cannot be written.
 pub fn untyped_size(v: Value, buffer: &[u8]) -> Wrote
     ensures { λ r. ⌜ wroteTold r ≡ wrote (writeUntyped (valueTold (now (buffer .entry)) v)) ⌝ }
@@ -65,5 +90,23 @@ pub fn untyped_size(v: Value, buffer: &[u8]) -> Wrote
         Value::Scalar(s) => Wrote::Bytes(3 + kinds::bytes_of(kinds::kind_of(s))),
         Value::Binary(p) => size::untyped_content(ContentKind::Binary, p, buffer),
         Value::String(p) => size::untyped_content(ContentKind::String, p, buffer),
+    }
+}
+
+// The value with its own descriptor in front, at the front of the room.
+pub fn write_untyped(v: Value, buffer: &[u8], out: &mut [u8]) -> Wrote
+    ensures answer { λ r. ⌜ wroteTold r ≡ wrote (fitted (writeUntyped (valueTold (now (buffer .entry)) v)) (length (now (out .entry)))) ⌝ }
+    ensures room { λ _. ⌜ now (out .exit) ≡ roomAfter (fitted (writeUntyped (valueTold (now (buffer .entry)) v)) (length (now (out .entry)))) (now (out .entry)) ⌝ }
+{
+    let needed = untyped_size(v, buffer);
+    match needed {
+        Wrote::Bytes(n) => {
+            if out.len() < n {
+                return Wrote::Refused(Refusal::Room);
+            }
+            inner::fill_untyped(v, buffer, &mut out[..n]);
+            Wrote::Bytes(n)
+        }
+        Wrote::Refused(e) => Wrote::Refused(e),
     }
 }

@@ -1,6 +1,5 @@
 -- `column_data::untyped_size` meets its contract: each kind of value with its own descriptor. Assumes nothing.
 use Rattle.column_data.specs.Told.{kindTold}
-use mathlib.Core.Path.{_≡_, refl, sym, ap, _∙_}
 use native.Mathlib.Omega.{arith}
 use Rattle.format.specs.Answer.{wrote}
 use Rattle.format.specs.Value.{writeUntyped}

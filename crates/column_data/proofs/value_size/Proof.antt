@@ -1,5 +1,5 @@
 -- `column_data::value_size` meets its contract: rule 6, then the family's size. Assumes nothing.
-use mathlib.Core.Path.{_≡_, refl, sym, ap, _∙_}
+use mathlib.Core.Path.{sym, _∙_}
 use native.Mathlib.Omega.{arith}
 use Rattle.format.specs.Answer.{wrote}
 use Rattle.type_info.specs.Told.{columnTold}

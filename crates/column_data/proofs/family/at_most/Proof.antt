@@ -1,6 +1,6 @@
 -- `column_data::family::at_most` meets its contract: the test is the definition's. Assumes nothing.
 use borrow.Author.Tests.{lt-leb, le-leb}
-use mathlib.Core.Path.{_≡_, refl, sym, ap, _∙_}
+use mathlib.Core.Path.{sym}
 use Rattle.column_data.proofs.family.at_most.Statement.{statement}
 use Rattle.column_data.proofs.family.at_most.Tie as tie
 

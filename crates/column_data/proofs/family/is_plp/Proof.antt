@@ -1,6 +1,6 @@
 -- `column_data::family::is_plp` meets its contract: the test is the definition's. Assumes nothing.
 use borrow.Author.Tests.{eq-eqb, ne-eqb}
-use mathlib.Core.Path.{_≡_, refl, sym, ap, _∙_}
+use mathlib.Core.Path.{sym}
 use Rattle.column_data.proofs.family.is_plp.Statement.{statement}
 use Rattle.column_data.proofs.family.is_plp.Tie as tie
 

@@ -1,5 +1,5 @@
 -- `column_data::family::untyped_head` meets its contract: type byte and length, and a string's collation. Assumes nothing.
-use mathlib.Core.Path.{_≡_, refl, sym, ap, _∙_}
+use mathlib.Core.Path.{refl}
 use borrow.Author.Needs.{needs}
 use Rattle.column_data.proofs.family.untyped_head.Statement.{statement}
 use Rattle.column_data.proofs.family.untyped_head.Tie as tie

@@ -1,8 +1,5 @@
 -- `column_data::inner::put_scalar` meets its contract: a GUID in wire order, or the low bytes of the number. Assumes nothing.
-use lib.Seq.{sets}
-use mathlib.Core.Path.{_≡_, refl, sym, ap, _∙_}
 use native.Mathlib.Omega.{arith}
-use lib.ListN.{length}
 use Rattle.format.specs.Scalar.{scalarBytes}
 use Rattle.wire.specs.Told.{guidWire}
 use Rattle.column_data.proofs.ScalarLaws.{low-bytes}

@@ -1,5 +1,5 @@
 -- `column_data::kinds::is_listed` meets its contract: each type lists its kinds. Assumes nothing.
-use mathlib.Core.Path.{_≡_, refl, sym, ap, _∙_}
+use mathlib.Core.Path.{_∙_}
 use Rattle.column_data.proofs.ScalarLaws.{only}
 use borrow.Author.Needs.{needs}
 use Rattle.column_data.proofs.kinds.is_listed.Statement.{statement}

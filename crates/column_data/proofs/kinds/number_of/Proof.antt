@@ -1,5 +1,5 @@
 -- `column_data::kinds::number_of` meets its contract: each case has its number; a whole number in its range is what its bits stand for. Assumes nothing.
-use mathlib.Core.Path.{_≡_, refl, sym, ap, _∙_}
+use mathlib.Core.Path.{ap, _∙_}
 use mir.Syntax.{w16, w32, w64}
 use mir.Facts.{toZ-ofZ}
 use Rattle.format.specs.Number.{unsigned}

@@ -1,6 +1,6 @@
 -- `column_data::kinds::same_kind` meets its contract: two kinds are the same where their places are. Assumes nothing.
 use borrow.Author.Tests.{eq-eqb, ne-eqb}
-use mathlib.Core.Path.{_≡_, refl, sym, ap, _∙_}
+use mathlib.Core.Path.{sym, _∙_}
 use borrow.Author.Needs.{needs}
 use Rattle.column_data.proofs.kinds.same_kind.Statement.{statement}
 use Rattle.column_data.proofs.kinds.same_kind.Tie as tie

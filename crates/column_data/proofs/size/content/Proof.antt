@@ -1,5 +1,5 @@
 -- `column_data::size::content` meets its contract: under its own family content within the bound, and refusal 3 under any other. Assumes nothing.
-use mathlib.Core.Path.{_≡_, refl, sym, ap, _∙_}
+use mathlib.Core.Path.{refl, sym, _∙_}
 use mathlib.Core.List.{[]}
 use Rattle.format.specs.Answer.{wrote}
 use Rattle.column_data.specs.Told.{contentKindTold, spanTold}

@@ -1,5 +1,5 @@
 -- `column_data::size::fixed` meets its contract: the test is the definition's. Assumes nothing.
-use mathlib.Core.Path.{_≡_, refl, sym, ap, _∙_}
+use mathlib.Core.Path.{sym, _∙_}
 use borrow.Author.Needs.{needs}
 use Rattle.column_data.proofs.size.fixed.Statement.{statement}
 use Rattle.column_data.proofs.size.fixed.Tie as tie

@@ -1,7 +1,6 @@
 -- `column_data::size::formed` meets its contract: the counts of the two forms. Assumes nothing.
-use mathlib.Core.Path.{_≡_, refl, sym, ap, _∙_}
+use mathlib.Core.Path.{_∙_}
 use native.Mathlib.Omega.{arith}
-use lib.ListN.{length}
 use Prim.Native.Nat.{_<_}
 use Rattle.column_data.proofs.ContentLaws.{short-size, plp-none, plp-size}
 use borrow.Author.Needs.{needs}

@@ -1,5 +1,5 @@
 -- `column_data::size::framed` meets its contract: what the content comes to says which case of the definition holds. Assumes nothing.
-use mathlib.Core.Path.{_≡_, refl, sym, ap, _∙_}
+use mathlib.Core.Path.{sym, ap, _∙_}
 use Rattle.wire.specs.Told.{wroteTold}
 use Rattle.column_data.proofs.ContentLaws.{framed-refused, framed-long, framed-size}
 use borrow.Author.Needs.{needs}

@@ -1,7 +1,7 @@
 -- `column_data::size::framed_span` meets its contract: the part that the span names, or refusal 1. Assumes nothing.
 use lib.ListN.{length}
 use Prim.Native.Nat.{_+_, _-_, _≤_}
-use mathlib.Core.Path.{_≡_, refl, sym, ap, _∙_}
+use mathlib.Core.Path.{_≡_, sym, _∙_}
 use native.Mathlib.Omega.{arith}
 use borrow.Author.Tests.{leb-true, leb-false}
 use Rattle.format.specs.Answer.{wrote}

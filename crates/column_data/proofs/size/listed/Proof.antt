@@ -1,5 +1,5 @@
 -- `column_data::size::listed` meets its contract: the kind first, then the declared length. Assumes nothing.
-use mathlib.Core.Path.{_≡_, refl, sym, ap, _∙_}
+use mathlib.Core.Path.{sym, _∙_}
 use borrow.Author.Tests.{lt-ltb, le-ltb}
 use borrow.Author.Needs.{needs}
 use Rattle.column_data.proofs.size.listed.Statement.{statement}

@@ -1,5 +1,4 @@
 -- `column_data::size::scalar` meets its contract: the bytes alone, or behind a length byte. Assumes nothing.
-use mathlib.Core.Path.{_≡_, refl, sym, ap, _∙_}
 use Rattle.format.specs.Answer.{wrote}
 use Rattle.column_data.proofs.ScalarLaws.{fixed-scalar, listed-scalar}
 use borrow.Author.Needs.{needs}

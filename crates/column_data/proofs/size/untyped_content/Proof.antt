@@ -1,5 +1,5 @@
 -- `column_data::size::untyped_content` meets its contract: the same path with the descriptor in front. Assumes nothing.
-use mathlib.Core.Path.{_≡_, refl, sym, ap, _∙_}
+use mathlib.Core.Path.{sym}
 use Rattle.column_data.specs.Told.{contentKindTold}
 use Rattle.column_data.specs.Form.{untypedHead}
 use Rattle.column_data.proofs.ContentLaws.{untyped-size}
