@@ -1,45 +1,38 @@
 -- What text in gives is an even number of bytes: UTF-16LE has two bytes or four for each character.
 --   textIn s ≡ gives t  →  isOdd true (length t) ≡ false, and every element of t is below 256.
 -- Assumes nothing.
-use mathlib.Core.Path.{_≡_, refl}
-use mathlib.Core.List.{List, [], _∷_, _++_}
-use mathlib.Core.Bool.{Bool, true, false}
+use mathlib.Core.Path.{_≡_, refl, sym, subst}
+use mathlib.Core.List.{List, [], _∷_}
+use mathlib.Core.Bool.{true, false}
 use Prim.Native.Nat.{ℕ, _+_, _-_, _/_, _%_}
 use native.Mathlib.Omega.{arith}
 use lib.ListN.{length, length-append}
-use lib.Dec.{ltb, eqb}
+use lib.Dec.{eqb}
 use borrow.Author.Tests.{eq-eqb}
-use Rattle.lists.specs.Pick.{pick}
 use Rattle.format.specs.Answer.{gives}
 use Rattle.format.specs.Number.{lowBytes}
 use Rattle.format.specs.Text.{char8, utf16, scalars, spelled, textIn}
 use Rattle.format.specs.Plp.{isOdd}
 use Rattle.format.proofs.Number.{Bytes}
 use Rattle.format.proofs.Answer.{and-took}
+use Rattle.format.proofs.Scalars.{less}
+use Rattle.format.proofs.Utf16.{utf16-one, utf16-two}
 use Rattle.format.proofs.Plain.{bytes-append, bytes-low}
 use Rattle.format.proofs.FixedWidth as Fixeds
 use Rattle.format.proofs.LengthByte as Listeds
 
 module _ (c : ℕ) where
   utf16-even : length (utf16 c) % 2 ≡ 0
-  unfolding utf16
-  utf16-even = go (ltb c 0x10000)
-    where
-      go : (b : Bool) → length (pick b (lowBytes 2 c) (lowBytes 2 (0xD800 + (c - 0x10000) / 1024) ++ lowBytes 2 (0xDC00 + (c - 0x10000) % 1024))) % 2 ≡ 0
-      go true = refl
-      go false = refl
+  utf16-even = less c 0x10000 (λ i. rw (utf16-one c i)) (λ i. rw (utf16-two c i))
 
   utf16-bytes : Bytes (utf16 c)
-  unfolding utf16
-  utf16-bytes = go (ltb c 0x10000)
-    where
-      go : (b : Bool) → Bytes (pick b (lowBytes 2 c) (lowBytes 2 (0xD800 + (c - 0x10000) / 1024) ++ lowBytes 2 (0xDC00 + (c - 0x10000) % 1024)))
-      go true = bytes-low 2 c
-      go false =
-          bytes-append (lowBytes 2 (0xD800 + (c - 0x10000) / 1024)) (lowBytes 2 (0xDC00 + (c - 0x10000) % 1024))
-          (bytes-low 2 (0xD800 + (c - 0x10000) / 1024)) (bytes-low 2 (0xDC00 + (c - 0x10000) % 1024))
+  utf16-bytes =
+      let a = 0xD800 + (c - 0x10000) / 1024 in
+      let b = 0xDC00 + (c - 0x10000) % 1024 in
+      less c 0x10000 (λ i. subst Bytes (sym (utf16-one c i)) (bytes-low 2 c))
+      (λ i. subst Bytes (sym (utf16-two c i)) (bytes-append (lowBytes 2 a) (lowBytes 2 b) (bytes-low 2 a) (bytes-low 2 b)))
 
-spelled-even : (cs : List ℕ) → length (spelled utf16 cs) % 2 ≡ 0
+pub spelled-even : (cs : List ℕ) → length (spelled utf16 cs) % 2 ≡ 0
 unfolding spelled
 spelled-even [] = refl
 spelled-even (c ∷ cs) = omega (arith, length-append (utf16 c) (spelled utf16 cs), utf16-even c, spelled-even cs)

@@ -11,6 +11,7 @@ use lib.Seq.{drop-cons}
 use Rattle.format.specs.Answer.{took, stops, notText}
 use Rattle.format.specs.Text.{between, wellFormed, second8, tail8, char8}
 use Rattle.format.specs.Text as T
+use Rattle.format.proofs.Answer.{no-truth}
 use Rattle.format.proofs.Scalars.{less, in-between}
 use Rattle.format.proofs.Utf8.{first-ascii}
 use Rattle.text.specs.Told.{standsIn, chosen, none, leadIn}
@@ -31,7 +32,7 @@ module _ (s : List ℕ) (at : ℕ) where
     pub stands-true : standsIn low high (drop at s) ≡ true → (at < length s) × (low ≤ getD s at 0) × (getD s at 0 ≤ high)
     stands-true e =
         less at (length s) (λ h. let i = in-between low high (getD s at 0) (stands-is h ∙ e) in (h, i .0, i .1))
-        (λ h. let q : false ≡ true = stands-end h ∙ e in let z : _≡_ {A = ℕ} 0 1 = cc in absurd (omega arith))
+        (λ h. no-truth (stands-end h ∙ e))
 
   -- ---- UTF-8
 

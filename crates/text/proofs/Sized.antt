@@ -5,8 +5,8 @@ use mathlib.Core.List.{List, [], _++_}
 use Prim.Native.Nat.{ℕ, _<_, _≤_}
 use native.Mathlib.Omega.{arith}
 use lib.ListN.{length, drop}
-use Rattle.format.specs.Answer.{Answer, gives, refuses, Refusal, room, fitted, wrote, roomAfter}
-use Rattle.format.proofs.Scalars.{no-gives}
+use Rattle.format.specs.Answer.{Answer, gives, refuses, room, fitted, wrote, roomAfter}
+use Rattle.format.proofs.Answer.{no-gives}
 use Rattle.wire.proofs.Writing.{no-room, has-room}
 use Rattle.text.specs.Told.{Fitting}
 
