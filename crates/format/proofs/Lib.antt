@@ -4,6 +4,13 @@ pub mod Number
 pub mod Guid
 pub mod Place
 pub mod Plain
+pub mod Scalars
+pub mod Utf8
+pub mod Utf16
+pub mod Text
+pub mod DescriptorForm
+pub mod DescriptorRead
+pub mod Descriptor
 pub mod Codec
 pub mod Scalar
 pub mod Chunks
@@ -13,10 +20,5 @@ pub mod LengthByte
 pub mod Content
 pub mod Value
 pub mod Normal
-pub mod Spelled
 pub mod Writing
 pub mod Marked
-pub mod Scalars
-pub mod Utf8
-pub mod Utf16
-pub mod Text

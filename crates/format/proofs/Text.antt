@@ -1,20 +1,21 @@
 -- UTF-8 to UTF-16LE and back is the identity, either way round: both are spellings of the same scalar values, and each spelling is read back and is what was
 -- read. Beside it, what UTF-16LE of a text is: an even number of bytes, at most twice as many as the UTF-8.
 -- Assumes nothing.
-use mathlib.Core.Path.{_≡_, ap, sym, _∙_, subst}
+use mathlib.Core.Path.{_≡_, refl, ap, sym, _∙_, subst}
 use mathlib.Core.List.{List, [], _∷_}
 use mathlib.Core.Bool.{not}
-use Prim.Native.Nat.{ℕ, _+_, _*_, _%_, _<_, _≤_}
+use Prim.Native.Nat.{ℕ, _+_, _*_, _-_, _/_, _%_, _<_, _≤_}
 use native.Mathlib.Omega.{arith}
 use lib.ListN.{length, length-append}
 use lib.Seq.{getD-drop}
 use lib.Dec.{eqb}
 use borrow.Author.Tests.{eq-eqb, ne-eqb}
 use Rattle.format.specs.Answer.{gives, refuses, Read, sequence}
+use Rattle.format.specs.Number.{lowBytes}
 use Rattle.format.specs.Text.{char8, utf8, char16, utf16, scalars, spelled, textIn, textOut}
 use Rattle.format.proofs.Answer.{and-took, passed}
 use Rattle.format.proofs.Number.{Bytes}
-use Rattle.format.proofs.Spelled.{spelled-even}
+use Rattle.format.proofs.Plain.{bytes-append, bytes-low}
 use Rattle.format.proofs.Scalars.{less, converted, Form, spelled-back, spelled-forth}
 use Rattle.format.proofs.Utf8.{utf8-one, utf8-two, utf8-three, utf8-four, char8-back, char8-forth}
 use Rattle.format.proofs.Utf16.{utf16-one, utf16-two, char16-back, char16-forth}
@@ -85,6 +86,28 @@ pub out-gives : (u s : List ℕ) → textOut u ≡ gives s → converted char16 
 unfolding textOut
 out-gives u s h = passed (not (eqb (length u % 2) 0)) sequence (converted char16 utf8 u) s h .1
 
+-- what scalar values are in UTF-16LE: an even number of bytes
+utf16-even : (c : ℕ) → length (utf16 c) % 2 ≡ 0
+utf16-even c = utf16-length c (λ n. n % 2 ≡ 0) (λ i. refl) (λ i. refl)
+
+utf16-bytes : (c : ℕ) → Bytes (utf16 c)
+utf16-bytes c =
+    let a = 0xD800 + (c - 0x10000) / 1024 in
+    let b = 0xDC00 + (c - 0x10000) % 1024 in
+    less c 0x10000 (λ i. subst Bytes (sym (utf16-one c i)) (bytes-low 2 c))
+    (λ i. subst Bytes (sym (utf16-two c i)) (bytes-append (lowBytes 2 a) (lowBytes 2 b) (bytes-low 2 a) (bytes-low 2 b)))
+
+spelled-even : (cs : List ℕ) → length (spelled utf16 cs) % 2 ≡ 0
+unfolding spelled
+spelled-even [] = refl
+spelled-even (c ∷ cs) = omega (arith, length-append (utf16 c) (spelled utf16 cs), utf16-even c, spelled-even cs)
+
+spelled-bytes : (cs : List ℕ) → Bytes (spelled utf16 cs)
+unfolding spelled
+spelled-bytes [] = λ i. omega arith
+spelled-bytes (c ∷ cs) = bytes-append (utf16 c) (spelled utf16 cs) (utf16-bytes c) (spelled-bytes cs)
+
+-- and at most twice as many as in UTF-8
 spelled-short : (cs : List ℕ) → length (spelled utf16 cs) ≤ 2 * length (spelled utf8 cs)
 unfolding spelled
 spelled-short [] = omega arith
@@ -114,3 +137,6 @@ pub in-short : (s u : List ℕ) → textIn s ≡ gives u → length u ≤ 2 * le
 in-short s u h =
     let p = converted-gives char8 utf16 s u (in-gives s u h) in
     omega (arith, ap length (p .2), ap length (spelled-forth form8 s (p .0) tt (p .1) .0), spelled-short (p .0))
+
+pub in-bytes : (s u : List ℕ) → textIn s ≡ gives u → Bytes u
+in-bytes s u h = let p = converted-gives char8 utf16 s u (in-gives s u h) in rw (p .2) at (spelled-bytes (p .0))

@@ -8,7 +8,7 @@
 -- Why it holds: the writer's checks 6, 7, 3 and 5 are what it means that a value fits its column, and what fits reads again (Value.antt). A string's content is even
 -- since UTF-16LE has two bytes or four for each character.
 -- Assumes nothing.
-use mathlib.Core.Path.{_≡_, refl}
+use mathlib.Core.Path.{_≡_, refl, ap}
 use mathlib.Core.List.{List, [], _∷_, _++_}
 use mathlib.Core.Bool.{true, false, not}
 use mathlib.Core.Option.{Option, none, some}
@@ -30,7 +30,7 @@ use Rattle.format.proofs.Codec.{FitAll}
 use Rattle.format.proofs.Scalar.{InRange}
 use Rattle.format.proofs.FixedWidth as Fixeds
 use Rattle.format.proofs.LengthByte as Listeds
-use Rattle.format.proofs.Spelled.{text-even}
+use Rattle.format.proofs.Text.{in-even}
 use Rattle.format.proofs.Value.{Fits, Fit, column}
 use Rattle.format.proofs.Normal.{FitRow, reads, own}
 
@@ -76,7 +76,7 @@ module _ (n : ℕ) (v : Value) where
       go : (a : Answer (List ℕ)) → textIn s ≡ a → stringOf a ≡ gives v → Held ContentKind.string n v
       go (gives t) f q =
           let p : Value.string t ≡ v = cc in
-          rw (← p) (holds (some t) (ltb-false (contentBound n) (length t) (rw (← p) at l), text-even s t f))
+          rw (← p) (holds (some t) (ltb-false (contentBound n) (length t) (rw (← p) at l), ap (λ (k : ℕ). not (eqb k 0)) (in-even s t f)))
       go (refuses r) f q = no-gives r v q
 
   wrote-family : (f : Family) (g : Given) → Ranged g → kindFits f g ≡ true → valueOf g ≡ gives v → tooLong n f v ≡ false → Fits n (some f) v

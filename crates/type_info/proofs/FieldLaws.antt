@@ -1,11 +1,11 @@
 -- What follows the type byte, by the type's family: which reader the definition goes on with at a place.
 -- Assumes nothing.
-use mathlib.Core.Path.{_≡_, refl, sym, ap, _∙_}
+use mathlib.Core.Path.{_≡_, refl, ap, _∙_}
 use mathlib.Core.List.{List}
 use mathlib.Core.Bool.{false}
 use Prim.Native.Nat.{ℕ, _≤_}
 use lib.ListN.{length}
-use Rattle.format.specs.Answer.{Answer, gives, refuses, unknown, notCarried, Read, took, stops, thenRead, readAt}
+use Rattle.format.specs.Answer.{Answer, gives, refuses, unknown, notCarried, took, stops, thenRead, readAt}
 use Rattle.format.specs.Number.{readByte, readLow}
 use Rattle.format.specs.Descriptor.{TypeId, FixedLen, ByteLen, UShortLen, LongLen, fixedLen, byteLen, uShortLen, longLen, daten, xml, udt, ssVariant, Column, plain, datenLength, typeOf, readDigits, readCollation, readSchema, readFields, readTyped, readType}
 use Rattle.format.proofs.Place.{at-left, at-stops}

@@ -3,3 +3,5 @@ pub mod ReadLaws
 pub mod FieldLaws
 pub mod RuleLaws
 pub mod WriteLaws
+pub mod Decided
+pub mod RoundTrip

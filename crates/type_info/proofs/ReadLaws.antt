@@ -1,17 +1,17 @@
 -- What a step of the reader shows: each continuation of the definition, at a place, goes on where the step before it ended.
 -- Assumes nothing.
-use mathlib.Core.Path.{_≡_, refl, sym, ap, _∙_}
-use mathlib.Core.List.{List, [], _∷_}
-use mathlib.Core.Bool.{Bool, true, false}
+use mathlib.Core.Path.{_≡_, refl, _∙_}
+use mathlib.Core.List.{List}
 use Prim.Native.Nat.{ℕ, _+_, _*_, _<_, _≤_}
 use native.Mathlib.Omega.{arith}
 use lib.ListN.{length, take, drop}
 use lib.Dec.{ltb}
 use borrow.Author.Tests.{le-ltb}
-use Rattle.format.specs.Answer.{Read, took, stops, missing, stopIf, readAt, Part, inside, part}
+use Rattle.format.specs.Answer.{took, stops, missing, stopIf, readAt, inside, part}
 use Rattle.format.specs.Number.{readByte, readLow, readBytes}
 use Rattle.format.specs.Descriptor.{readName, readUnits, withNames}
-use Rattle.format.proofs.Place.{Stays, past, took-at, stays-low, stays-bytes, stays-then}
+use Rattle.format.proofs.Plain.{byte-took, low-took}
+use Rattle.format.proofs.Place.{Stays, took-at, stays-low, stays-bytes, stays-then}
 use Rattle.wire.proofs.Reading.{count-there, count-missing}
 use Rattle.type_info.specs.declared.Name.{Name}
 use Rattle.type_info.specs.declared.ColumnRead.{ColumnRead}
@@ -23,20 +23,11 @@ use Rattle.type_info.specs.Told.{nameTold, columnTold, nameBytes, NameIn
 
 module _ (s : List ℕ) (at : ℕ) where
   -- the place behind a byte, and behind a number
-  one : (l : List ℕ) (b n : ℕ) → readByte l ≡ took b n → n ≡ 1
-  unfolding readByte
-  one [] b n h = let z : _≡_ {A = ℕ} 0 1 = cc in absurd (omega arith)
-  one (x ∷ l) b n h = cc
-
   pub byte-next : (b m : ℕ) → readAt readByte s at ≡ took b m → m ≡ at + 1
-  byte-next b m h = let t = took-at readByte s at b m h in omega (arith, one (drop at s) b (t .1) (t .2), t .3)
-
-  width : (w : ℕ) (l : List ℕ) (v n : ℕ) → readLow w l ≡ took v n → n ≡ w
-  unfolding readLow
-  width w l v n h = let p = past (ltb (length l) w) missing (took _ w) v n h in cc
+  byte-next b m h = let t = took-at readByte s at b m h in omega (arith, byte-took (drop at s) b (t .1) (t .2), t .3)
 
   pub low-next : (w v m : ℕ) → readAt (readLow w) s at ≡ took v m → m ≡ at + w
-  low-next w v m h = let t = took-at (readLow w) s at v m h in omega (arith, width w (drop at s) v (t .1) (t .2), t .3)
+  low-next w v m h = let t = took-at (readLow w) s at v m h in omega (arith, low-took w (drop at s) v (t .1) (t .2), t .3)
 
   bytes-is : (w : ℕ) (l : List ℕ) → readBytes w l ≡ stopIf (ltb (length l) w) missing (took (take w l) w)
   unfolding readBytes

@@ -4,14 +4,13 @@ use mathlib.Core.Path.{_≡_, refl, sym, ap, _∙_}
 use mathlib.Core.List.{List}
 use mathlib.Core.Bool.{Bool, true, false}
 use mathlib.Core.Option.{some}
-use Prim.Native.Nat.{ℕ, _+_, _-_, _*_, _/_, _%_, _^_, _<_, _≤_}
+use Prim.Native.Nat.{ℕ, _+_, _-_, _*_, _/_, _%_, _^_, _<_}
 use native.Mathlib.Omega.{arith}
-use lib.ListN.{length, take, drop, length-drop}
+use lib.ListN.{length, drop, length-drop}
 use lib.Seq.{length-take-le}
 use lib.Dec.{ltb, eqb}
 use borrow.Author.Tests.{lt-ltb, eq-eqb}
-use Rattle.lists.specs.Pick.{pick}
-use Rattle.format.specs.Answer.{Part, inside, outside, part}
+use Rattle.format.specs.Answer.{outside, part}
 use Rattle.format.specs.Descriptor as D
 use Rattle.format.specs.Descriptor.{both, nameFits, schemaFits}
 use Rattle.type_info.specs.declared.Name.{Name}

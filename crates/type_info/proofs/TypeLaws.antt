@@ -1,14 +1,13 @@
 -- A type byte is asked of one run of the types after another: the first run that has it answers for all of them.
 -- Assumes nothing.
-use mathlib.Core.Path.{_≡_, refl, sym, ap, _∙_}
+use mathlib.Core.Path.{_≡_, refl, ap, _∙_}
 use mathlib.Core.List.{List, [], _∷_, _++_}
 use mathlib.Core.Bool.{Bool, true, false}
 use Prim.Native.Nat.{ℕ}
-use native.Mathlib.Omega.{arith}
 use lib.Dec.{eqb}
 use Rattle.lists.specs.Pick.{pick}
 use Rattle.format.specs.Answer.{Answer, gives, refuses, unknown}
-use Rattle.format.specs.Descriptor.{TypeId, typeByte, types, among, typeOf}
+use Rattle.format.specs.Descriptor.{TypeId, typeByte, among, typeOf}
 use Rattle.type_info.specs.Told.{fixedTypes, byteLenTypes, otherTypes}
 
 abbrev orElse : Answer TypeId → Answer TypeId → Answer TypeId

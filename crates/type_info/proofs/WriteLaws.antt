@@ -2,19 +2,21 @@
 -- Assumes nothing.
 use mathlib.Core.Path.{_≡_, refl, sym, ap, _∙_}
 use mathlib.Core.List.{List, [], _∷_, _++_}
-use mathlib.Core.Bool.{Bool, true, false, not}
-use mathlib.Core.Option.{Option, none, some}
-use Prim.Native.Nat.{ℕ, suc, _+_, _-_, _*_, _/_, _^_, _<_, _≤_}
+use mathlib.Core.Bool.{Bool, true, false}
+use mathlib.Core.Option.{Option}
+use Prim.Native.Nat.{ℕ, _+_, _-_, _*_, _/_, _^_, _<_, _≤_}
 use native.Mathlib.Omega.{arith}
 use lib.ListN.{length, take, drop, length-append}
 use lib.Seq.{sets, length-sets}
 use lib.Dec.{ltb, lit≤}
 use borrow.Author.Tests.{ltb-true, ltb-false}
-use Rattle.format.specs.Answer.{Refusal, Answer, gives, refuses, rule, notCarried, refuseIf, wrote, Part, inside}
+use Rattle.format.specs.Answer.{Answer, gives, refuses, rule, notCarried, wrote}
 use Rattle.format.specs.Number.{lowBytes}
 use Rattle.format.specs.Descriptor as D
 use Rattle.format.specs.Descriptor.{typeByte, both, nameFits, namesFit, keepsRule, isDescribed, lengthWidth, hasDigits, digitsBytes, collationBytes, nameBytes, schemaBytes, columnBytes, writeColumn}
+use Rattle.format.proofs.Answer.{no-gives}
 use Rattle.format.proofs.Number.{length-low}
+use Rattle.format.proofs.DescriptorForm.{both-true, written}
 use Rattle.lists.specs.Put.{putAt}
 use Rattle.lists.proofs.Front.{sets-put, sets-then}
 use Rattle.type_info.specs.declared.Name.{Name}
@@ -25,10 +27,6 @@ use Rattle.type_info.proofs.ReadLaws.{name-inside}
 use Rattle.type_info.proofs.RuleLaws.{length-name, name-leaves, name-lies}
 
 -- ---- names that fit
-
-both-true : (x y : Bool) → both x y ≡ true → (x ≡ true) × (y ≡ true)
-both-true true y h = (refl, h)
-both-true false y h = let z : _≡_ {A = ℕ} 0 1 = cc in absurd (omega arith)
 
 fits-name : (s : List ℕ) (n : Name) (w : ℕ) → nameFits w (nameTold s n) ≡ true → NameIn s n × (n .units < 256 ^ w)
 fits-name s n w h = go (ltb (length s) (n .start + 2 * n .units)) refl
@@ -116,10 +114,6 @@ length-column k =
 -- ---- the order of the checks
 
 module _ (k : D.Column) where
-  pub writes : keepsRule k ≡ true → namesFit (k .schema) ≡ true → isDescribed (k .type) ≡ true → writeColumn k ≡ gives (columnBytes k)
-  unfolding writeColumn
-  writes h i j = rw (h, i, j)
-
   pub breaks-rule : keepsRule k ≡ false → writeColumn k ≡ refuses rule
   unfolding writeColumn
   breaks-rule h = rw h
@@ -134,21 +128,12 @@ module _ (k : D.Column) where
 
 -- what a size says: the rule was kept, and it is the size of the bytes
 pub sized : (k : D.Column) (n : ℕ) → gives n ≡ wrote (writeColumn k) → (writeColumn k ≡ gives (columnBytes k)) × (namesFit (k .schema) ≡ true) × (length (columnBytes k) ≡ n)
-unfolding writeColumn wrote
-sized k n h = go (keepsRule k) (namesFit (k .schema)) (isDescribed (k .type)) refl refl refl h
+unfolding wrote
+sized k n h = go (writeColumn k) refl h
   where
-    clash : {P : Type 0} (e : Refusal) → _≡_ {A = Answer ℕ} (gives n) (refuses e) → P
-    clash e z = let y : _≡_ {A = ℕ} 0 1 = cc in absurd (omega arith)
-
-    checked : Bool → Bool → Bool → Answer (List ℕ)
-    checked a b c = refuseIf (not (both a b)) rule (refuseIf (not c) notCarried (gives (columnBytes k)))
-
-    go : (a b c : Bool) → keepsRule k ≡ a → namesFit (k .schema) ≡ b → isDescribed (k .type) ≡ c → gives n ≡ wrote (checked a b c) →
-        (checked (keepsRule k) (namesFit (k .schema)) (isDescribed (k .type)) ≡ gives (columnBytes k)) × (namesFit (k .schema) ≡ true) × (length (columnBytes k) ≡ n)
-    go false b c x y z e = clash rule e
-    go true false c x y z e = clash rule e
-    go true true false x y z e = clash notCarried e
-    go true true true x y z e = (rw (x, y, z), y, cc)
+    go : (a : Answer (List ℕ)) → writeColumn k ≡ a → gives n ≡ wrote a → (writeColumn k ≡ gives (columnBytes k)) × (namesFit (k .schema) ≡ true) × (length (columnBytes k) ≡ n)
+    go (gives b) e q = let w = written k b e in (e ∙ ap gives (sym (w .bytes)), w .fits, ap length (w .bytes) ∙ cc)
+    go (refuses r) e q = no-gives r n (sym q)
 
 -- ---- the stores
 

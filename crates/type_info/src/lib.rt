@@ -107,7 +107,7 @@ pub enum ColumnRead {
 }
 
 // A name that was read, and the cursor behind it.
-pub enum NameRead {
+pub(crate) enum NameRead {
     Name(Name, Cursor),
     Refused(Refusal),
 }

@@ -1,7 +1,7 @@
 // TYPE_INFO, reading: a function for each continuation of the definition. Only `read_column` is for
 // callers; the others ask that their place lies inside.
 ghost use mathlib.Core.Path.{_≡_};
-ghost use Prim.Native.Nat.{ℕ, _+_, _*_, _≤_, _<_};
+ghost use Prim.Native.Nat.{ℕ, _+_, _*_, _≤_};
 ghost use lib.ListN.{length};
 ghost use Rattle.format.specs.Answer.{readAt};
 ghost use Rattle.format.specs.Descriptor.{readColumn, readType, readFields, readDigits, readScale, readCollation, readSort, readSchema, readSecond, readThird, readName, readUnits};
@@ -36,6 +36,7 @@ fn plain(t: TypeId, n: u64) -> Column
     }
 }
 
+// The scale behind the precision.
 fn read_scale(s: &[u8], at: Cursor, t: TypeId, n: u64, precision: u8) -> ColumnRead
     ensures { λ r. ⌜ (columnReadTold (now (s .entry)) r ≡ readAt (readScale (typeTold t) n precision) (now (s .entry)) (at .at)) × ((p : ℕ) → NamesFrom (now (s .entry)) p r) ⌝ }
 {
@@ -55,6 +56,7 @@ fn read_scale(s: &[u8], at: Cursor, t: TypeId, n: u64, precision: u8) -> ColumnR
     }
 }
 
+// Precision and scale behind the length, where the type has them.
 fn read_digits(s: &[u8], at: Cursor, t: TypeId, n: u64) -> ColumnRead
     requires { ⌜ at .at ≤ length (now s) ⌝ }
     ensures { λ r. ⌜ (columnReadTold (now (s .entry)) r ≡ readAt (readDigits (typeTold t) n) (now (s .entry)) (at .at)) × ((p : ℕ) → NamesFrom (now (s .entry)) p r) ⌝ }
@@ -69,6 +71,7 @@ fn read_digits(s: &[u8], at: Cursor, t: TypeId, n: u64) -> ColumnRead
     }
 }
 
+// The sort byte behind the four bytes of the collation.
 fn read_sort(s: &[u8], at: Cursor, t: TypeId, n: u64, info: u32) -> ColumnRead
     ensures { λ r. ⌜ (columnReadTold (now (s .entry)) r ≡ readAt (readSort (typeTold t) n info) (now (s .entry)) (at .at)) × ((p : ℕ) → NamesFrom (now (s .entry)) p r) ⌝ }
 {
@@ -88,6 +91,7 @@ fn read_sort(s: &[u8], at: Cursor, t: TypeId, n: u64, info: u32) -> ColumnRead
     }
 }
 
+// The collation behind the length, where the type has one.
 fn read_collation(s: &[u8], at: Cursor, t: TypeId, n: u64) -> ColumnRead
     requires { ⌜ at .at ≤ length (now s) ⌝ }
     ensures { λ r. ⌜ (columnReadTold (now (s .entry)) r ≡ readAt (readCollation (typeTold t) n) (now (s .entry)) (at .at)) × ((p : ℕ) → NamesFrom (now (s .entry)) p r) ⌝ }
@@ -130,6 +134,7 @@ fn read_name(s: &[u8], at: Cursor, w: Width) -> NameRead
     }
 }
 
+// The third name, behind two that were read.
 fn read_third(s: &[u8], at: Cursor, first: Name, second: Name) -> ColumnRead
     requires { ⌜ NameIn (now s) first × NameIn (now s) second ⌝ }
     ensures { λ r. ⌜ (columnReadTold (now (s .entry)) r ≡ readAt (readThird (nameBytes (now (s .entry)) first) (nameBytes (now (s .entry)) second)) (now (s .entry)) (at .at)) × ThirdFrom (now (s .entry)) first second (at .at + 2) r ⌝ }
@@ -150,6 +155,7 @@ fn read_third(s: &[u8], at: Cursor, first: Name, second: Name) -> ColumnRead
     }
 }
 
+// The second name, behind one that was read, and the third.
 fn read_second(s: &[u8], at: Cursor, first: Name) -> ColumnRead
     requires { ⌜ (at .at ≡ first .start + 2 * first .units) × NameIn (now s) first ⌝ }
     ensures { λ r. ⌜ (columnReadTold (now (s .entry)) r ≡ readAt (readSecond (nameBytes (now (s .entry)) first)) (now (s .entry)) (at .at)) × NamesFrom (now (s .entry)) (first .start) r ⌝ }
@@ -204,6 +210,7 @@ fn read_fields(s: &[u8], at: Cursor, t: TypeId) -> ColumnRead
     }
 }
 
+// The type of the byte b, and what follows it.
 fn read_type(s: &[u8], at: Cursor, b: u8) -> ColumnRead
     requires { ⌜ at .at ≤ length (now s) ⌝ }
     ensures { λ r. ⌜ (columnReadTold (now (s .entry)) r ≡ readAt (readType b) (now (s .entry)) (at .at)) × NamesFrom (now (s .entry)) (at .at + 2) r ⌝ }

@@ -36,6 +36,7 @@ fn same(n: u64, m: u64) -> bool
     false
 }
 
+// The length fits its field, or is what the type has without one.
 fn length_fits(t: TypeId, n: u64) -> bool
     ensures { λ r. ⌜ r ≡ lengthFits (typeTold t) n ⌝ }
 {
@@ -69,6 +70,7 @@ fn collation_numbers(info: u32, sort: u8) -> bool
     true
 }
 
+// A collation stands exactly where the type has one.
 fn collation_fits(t: TypeId, c: Collation) -> bool
     ensures { λ r. ⌜ r ≡ collationFits (hasCollation (typeTold t)) (collationTold c) ⌝ }
 {
@@ -128,7 +130,7 @@ fn name_fits(n: Name, names: &[u8], limit: u64) -> bool
 }
 
 // What is asked besides when the descriptor itself is written.
-pub fn names_fit(n: Schema, names: &[u8]) -> bool
+pub(crate) fn names_fit(n: Schema, names: &[u8]) -> bool
     ensures { λ r. ⌜ r ≡ namesFit (schemaTold (now (names .entry)) n) ⌝ }
 {
     match n {

@@ -9,6 +9,7 @@ use crate::TypeId;
 use crate::TypeRead;
 use crate::UShortLen;
 
+// The bytes of each family.
 fn fixed_byte(t: FixedLen) -> u8
     ensures { λ r. ⌜ r ≡ fixedByte (fixedTold t) ⌝ }
 {
@@ -85,6 +86,7 @@ pub fn type_byte(t: TypeId) -> u8
     }
 }
 
+// The types of each family, by their byte.
 fn fixed_of(b: u8) -> TypeRead
     ensures { λ r. ⌜ typeReadTold r ≡ among fixedTypes b ⌝ }
 {
@@ -177,7 +179,7 @@ fn byte_len_digits(t: ByteLen) -> bool
 }
 
 // Whether precision and scale follow the length.
-pub fn has_digits(t: TypeId) -> bool
+pub(crate) fn has_digits(t: TypeId) -> bool
     ensures { λ r. ⌜ r ≡ hasDigits (typeTold t) ⌝ }
 {
     match t {
@@ -216,7 +218,7 @@ fn long_len_collation(t: LongLen) -> bool
 }
 
 // Whether a collation follows the length.
-pub fn has_collation(t: TypeId) -> bool
+pub(crate) fn has_collation(t: TypeId) -> bool
     ensures { λ r. ⌜ r ≡ hasCollation (typeTold t) ⌝ }
 {
     match t {
@@ -232,7 +234,7 @@ pub fn has_collation(t: TypeId) -> bool
 }
 
 // How many bytes the length takes.
-pub fn length_width(t: TypeId) -> usize
+pub(crate) fn length_width(t: TypeId) -> usize
     ensures { λ r. ⌜ r ≡ lengthWidth (typeTold t) ⌝ }
 {
     match t {
@@ -248,7 +250,7 @@ pub fn length_width(t: TypeId) -> usize
 }
 
 // Udt and SsVariant have no descriptor here.
-pub fn is_described(t: TypeId) -> bool
+pub(crate) fn is_described(t: TypeId) -> bool
     ensures { λ r. ⌜ r ≡ isDescribed (typeTold t) ⌝ }
 {
     match t {
@@ -264,7 +266,7 @@ pub fn is_described(t: TypeId) -> bool
 }
 
 // Xml alone has a schema.
-pub fn is_xml(t: TypeId) -> bool
+pub(crate) fn is_xml(t: TypeId) -> bool
     ensures { λ r. ⌜ r ≡ isXml (typeTold t) ⌝ }
 {
     match t {

@@ -2,12 +2,11 @@
 // fail.
 ghost use mathlib.Core.Path.{_≡_};
 ghost use mathlib.Core.Bool.{true};
-ghost use mathlib.Core.List.{List, _++_};
-ghost use Prim.Native.Nat.{ℕ, _+_, _*_, _≤_, _<_};
+ghost use mathlib.Core.List.{_++_};
+ghost use Prim.Native.Nat.{ℕ, _+_, _*_, _≤_};
 ghost use lib.ListN.{length};
 ghost use lib.Seq.{sets};
 ghost use Rattle.format.specs.Answer.{fitted, wrote, roomAfter};
-ghost use Rattle.format.specs.Number.{lowBytes};
 ghost use Rattle.format.specs.Descriptor.{hasDigits, digitsBytes, collationBytes, nameBytes, schemaBytes, columnBytes, namesFit, writeColumn, xml};
 ghost use Rattle.wire.specs.Told.{wroteTold};
 ghost use Rattle.type_info.specs.Told.{typeTold, collationTold, nameTold, schemaTold, columnTold, NameIn};
@@ -22,12 +21,14 @@ use wire::Refusal;
 use wire::Wrote;
 use wire::inner;
 
+// How many bytes precision and scale take.
 fn digits_size(t: TypeId) -> usize
     ensures { λ r. ⌜ ((p s : ℕ) → r ≡ length (digitsBytes (hasDigits (typeTold t)) p s)) × (r ≤ 2) ⌝ }
 {
     if types::has_digits(t) { 2 } else { 0 }
 }
 
+// How many bytes the collation takes.
 fn collation_size(c: Collation) -> usize
     ensures { λ r. ⌜ (r ≡ length (collationBytes (collationTold c))) × (r ≤ 5) ⌝ }
 {
@@ -37,7 +38,7 @@ fn collation_size(c: Collation) -> usize
     }
 }
 
-// A marker, and the three names where there are any.
+// A marker, and the three names where there are any. The buffer is there for the contract alone.
 fn marked_size(n: Schema, names: &[u8]) -> usize
     requires { ⌜ namesFit (schemaTold (now names) n) ≡ true ⌝ }
     ensures { λ r. ⌜ (r ≡ length (schemaBytes xml (schemaTold (now (names .entry)) n))) × (r ≤ 200000) ⌝ }
@@ -50,6 +51,7 @@ fn marked_size(n: Schema, names: &[u8]) -> usize
     }
 }
 
+// How many bytes the schema takes: only Xml has one.
 fn schema_size(t: TypeId, n: Schema, names: &[u8]) -> usize
     requires { ⌜ namesFit (schemaTold (now names) n) ≡ true ⌝ }
     ensures { λ r. ⌜ (r ≡ length (schemaBytes (typeTold t) (schemaTold (now (names .entry)) n))) × (r ≤ 200000) ⌝ }
@@ -61,6 +63,7 @@ fn schema_size(t: TypeId, n: Schema, names: &[u8]) -> usize
     }
 }
 
+// How many bytes a descriptor takes whose names fit.
 fn size_of(c: Column, names: &[u8]) -> usize
     requires { ⌜ namesFit (schemaTold (now names) (c .schema)) ≡ true ⌝ }
     ensures { λ r. ⌜ r ≡ length (columnBytes (columnTold (now (names .entry)) c)) ⌝ }
@@ -161,6 +164,7 @@ fn put_marked(out: &mut [u8], at: usize, n: Schema, names: &[u8])
     inner::put_byte(out, at, 0);
 }
 
+// The schema, where the type has one.
 fn put_schema(out: &mut [u8], at: usize, t: TypeId, n: Schema, names: &[u8])
     requires { ⌜ (namesFit (schemaTold (now names) n) ≡ true) × (at + length (schemaBytes (typeTold t) (schemaTold (now names) n)) ≤ length (now out)) ⌝ }
     ensures { λ _. ⌜ now (out .exit) ≡ sets (now (out .entry)) at (schemaBytes (typeTold t) (schemaTold (now (names .entry)) n)) ⌝ }
@@ -170,6 +174,7 @@ fn put_schema(out: &mut [u8], at: usize, t: TypeId, n: Schema, names: &[u8])
     }
 }
 
+// The whole descriptor, where there is room for it.
 fn put_column(out: &mut [u8], c: Column, names: &[u8])
     requires { ⌜ (namesFit (schemaTold (now names) (c .schema)) ≡ true) × (length (columnBytes (columnTold (now names) c)) ≤ length (now out)) ⌝ }
     ensures { λ _. ⌜ now (out .exit) ≡ sets (now (out .entry)) 0 (columnBytes (columnTold (now (names .entry)) c)) ⌝ }

@@ -1,6 +1,5 @@
 -- `pre_login::write_pre_login` meets its contract: 39 bytes with FEDAUTHREQUIRED, 33 without, or refusal 4 and the room as it was. Assumes nothing.
-use mathlib.Core.Path.{_≡_, _∙_}
-use mathlib.Core.Bool.{true, false}
+use mathlib.Core.Path.{_∙_}
 use native.Mathlib.Omega.{arith}
 use Rattle.lists.proofs.Front.{sets-front}
 use Rattle.format.specs.Prelogin.{writePrelogin}

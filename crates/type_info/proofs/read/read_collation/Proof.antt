@@ -1,5 +1,5 @@
 -- `type_info::read::read_collation` meets its contract: nothing where the type has none, else the first field and the reader behind it. Assumes nothing.
-use mathlib.Core.Path.{_≡_, refl, sym, ap, _∙_}
+use mathlib.Core.Path.{sym, ap, _∙_}
 use Rattle.format.specs.Answer.{thenRead}
 use Rattle.format.specs.Number.{readLow}
 use Rattle.format.specs.Descriptor.{hasCollation, readSort, plain}

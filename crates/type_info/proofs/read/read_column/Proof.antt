@@ -1,5 +1,5 @@
 -- `type_info::read::read_column` meets its contract: the type byte, and what follows it. Assumes nothing.
-use mathlib.Core.Path.{_≡_, refl, sym, ap, _∙_}
+use mathlib.Core.Path.{_≡_, sym, ap, _∙_}
 use Prim.Native.Nat.{_+_}
 use native.Mathlib.Omega.{arith}
 use Rattle.format.specs.Number.{readByte}

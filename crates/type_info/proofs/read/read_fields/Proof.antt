@@ -1,5 +1,5 @@
 -- `type_info::read::read_fields` meets its contract: the first field of the type's family, and the reader behind it. Assumes nothing.
-use mathlib.Core.Path.{_≡_, refl, sym, ap, _∙_}
+use mathlib.Core.Path.{_≡_, sym, ap, _∙_}
 use Prim.Native.Nat.{_+_}
 use native.Mathlib.Omega.{arith}
 use Rattle.format.specs.Number.{readByte, readLow}

@@ -1,11 +1,9 @@
 -- `type_info::read::read_name` meets its contract: the count, and the bytes behind it. Assumes nothing.
-use mathlib.Core.Path.{_≡_, refl, sym, ap, _∙_}
-use Prim.Native.Nat.{ℕ}
+use mathlib.Core.Path.{sym, ap, _∙_}
 use Rattle.format.specs.Number.{readLow}
 use Rattle.format.specs.Descriptor.{readUnits}
 use Rattle.format.proofs.Place.{stays-low, next-inside, at-then, at-then-stops}
 use Rattle.wire.specs.Told.{widthOf, numberTold, refusalTold}
-use Rattle.type_info.specs.Told.{NameFrom}
 use Rattle.type_info.proofs.ReadLaws.{low-next}
 use borrow.Author.Needs.{needs}
 use Rattle.type_info.proofs.read.read_name.Statement.{statement}

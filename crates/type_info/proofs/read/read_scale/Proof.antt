@@ -1,5 +1,5 @@
 -- `type_info::read::read_scale` meets its contract: the byte at the place, or why there is none. Assumes nothing.
-use mathlib.Core.Path.{_≡_, refl, sym, ap, _∙_}
+use mathlib.Core.Path.{sym, ap, _∙_}
 use Rattle.format.specs.Number.{readByte}
 use Rattle.format.specs.Descriptor.{withScale}
 use Rattle.format.proofs.Place.{at-map-took, at-map-stops}

@@ -3,7 +3,7 @@ use Prim.Native.Nat.{_+_}
 use lib.Dec.{eqb}
 use borrow.Author.Tests.{eq-eqb, ne-eqb}
 use Rattle.format.specs.Answer.{thenRead}
-use mathlib.Core.Path.{_≡_, refl, sym, ap, _∙_}
+use mathlib.Core.Path.{sym, ap, _∙_}
 use Rattle.format.specs.Descriptor.{xml, plain, readName, readSecond, schemaMarker}
 use Rattle.format.proofs.Place.{at-taken, at-left, at-then, at-then-stops}
 use Rattle.wire.specs.Told.{refusalTold}

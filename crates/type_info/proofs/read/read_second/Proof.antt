@@ -1,7 +1,7 @@
 -- `type_info::read::read_second` meets its contract: the second name, and the third behind it. Assumes nothing.
 use Prim.Native.Nat.{_+_}
 use native.Mathlib.Omega.{arith}
-use mathlib.Core.Path.{_≡_, refl, sym, ap, _∙_}
+use mathlib.Core.Path.{sym, ap, _∙_}
 use Rattle.format.specs.Descriptor.{readName, readThird}
 use Rattle.format.proofs.Place.{at-then, at-then-stops}
 use Rattle.wire.specs.Told.{refusalTold}

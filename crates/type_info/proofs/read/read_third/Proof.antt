@@ -1,6 +1,6 @@
 -- `type_info::read::read_third` meets its contract: the third name, or why there is none. Assumes nothing.
 use Prim.Native.Nat.{_+_}
-use mathlib.Core.Path.{_≡_, refl, sym, ap, _∙_}
+use mathlib.Core.Path.{refl, sym, ap, _∙_}
 use Rattle.format.specs.Descriptor.{readName, withNames}
 use Rattle.format.proofs.Place.{at-map-took, at-map-stops}
 use Rattle.wire.specs.Told.{refusalTold}

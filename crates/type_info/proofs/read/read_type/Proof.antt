@@ -1,5 +1,5 @@
 -- `type_info::read::read_type` meets its contract: the fields of the byte's type, or refusal 2. Assumes nothing.
-use mathlib.Core.Path.{_≡_, refl, sym, ap, _∙_}
+use mathlib.Core.Path.{sym, ap, _∙_}
 use Rattle.type_info.specs.Told.{typeTold, typeReadTold}
 use Rattle.type_info.proofs.FieldLaws.{known-type, unknown-type}
 use borrow.Author.Needs.{needs}

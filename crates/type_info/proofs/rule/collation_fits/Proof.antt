@@ -1,5 +1,5 @@
 -- `type_info::rule::collation_fits` meets its contract: a collation stands exactly where the type has one. Assumes nothing.
-use mathlib.Core.Path.{_≡_, refl, sym, ap, _∙_}
+use mathlib.Core.Path.{sym, _∙_}
 use borrow.Author.Needs.{needs}
 use Rattle.type_info.proofs.rule.collation_fits.Statement.{statement}
 use Rattle.type_info.proofs.rule.collation_fits.Tie as tie

@@ -1,6 +1,5 @@
 -- `type_info::rule::name_fits` meets its contract: the span leaves the buffer, or its count is judged. Assumes nothing.
-use mathlib.Core.Path.{_≡_, refl, sym, ap, _∙_}
-use Prim.Native.Nat.{ℕ, _^_}
+use mathlib.Core.Path.{ap, _∙_}
 use lib.Dec.{ltb}
 use native.Mathlib.Omega.{arith}
 use Rattle.type_info.proofs.RuleLaws.{name-leaves, name-lies}

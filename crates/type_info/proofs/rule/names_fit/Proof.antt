@@ -1,5 +1,5 @@
 -- `type_info::rule::names_fit` meets its contract: each name by itself. Assumes nothing.
-use mathlib.Core.Path.{_≡_, refl, sym, ap, _∙_}
+use mathlib.Core.Path.{refl}
 use borrow.Author.Needs.{needs}
 use Rattle.type_info.proofs.rule.names_fit.Statement.{statement}
 use Rattle.type_info.proofs.rule.names_fit.Tie as tie

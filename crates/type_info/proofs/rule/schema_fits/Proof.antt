@@ -1,5 +1,5 @@
 -- `type_info::rule::schema_fits` meets its contract: no schema fits every type, and a schema only Xml. Assumes nothing.
-use mathlib.Core.Path.{_≡_, refl, sym, ap, _∙_}
+use mathlib.Core.Path.{_∙_}
 use Rattle.type_info.specs.Told.{typeTold, nameTold}
 use Rattle.type_info.proofs.RuleLaws.{xml-schema}
 use borrow.Author.Needs.{needs}

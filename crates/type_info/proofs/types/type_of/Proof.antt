@@ -1,5 +1,5 @@
 -- `type_info::types::type_of` meets its contract: each of the three runs of types was asked, and the first that has the byte answers. Assumes nothing.
-use mathlib.Core.Path.{_≡_, sym, ap, _∙_}
+use mathlib.Core.Path.{sym, ap, _∙_}
 use Rattle.type_info.specs.Told.{typeTold, typeReadTold}
 use Rattle.type_info.proofs.TypeLaws.{in-first, in-second, in-third}
 use borrow.Author.Needs.{needs}

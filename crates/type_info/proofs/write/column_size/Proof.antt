@@ -1,8 +1,9 @@
 -- `type_info::write::column_size` meets its contract: rule 6 with the names, then 7, then the size. Assumes nothing.
-use mathlib.Core.Path.{_≡_, refl, sym, ap, _∙_}
+use mathlib.Core.Path.{sym, ap, _∙_}
 use Rattle.format.specs.Answer.{wrote}
 use Rattle.type_info.specs.Told.{columnTold}
-use Rattle.type_info.proofs.WriteLaws.{writes, breaks-rule, breaks-names, not-described}
+use Rattle.format.proofs.DescriptorForm.{writes}
+use Rattle.type_info.proofs.WriteLaws.{breaks-rule, breaks-names, not-described}
 use borrow.Author.Needs.{needs}
 use Rattle.type_info.proofs.write.column_size.Statement.{statement}
 use Rattle.type_info.proofs.write.column_size.Tie as tie

@@ -1,5 +1,5 @@
 -- `type_info::write::digits_size` meets its contract. Assumes nothing.
-use mathlib.Core.Path.{_≡_, refl, sym, ap, _∙_}
+use mathlib.Core.Path.{sym, _∙_}
 use borrow.Author.Needs.{needs}
 use Rattle.type_info.proofs.write.digits_size.Statement.{statement}
 use Rattle.type_info.proofs.write.digits_size.Tie as tie

@@ -1,5 +1,5 @@
 -- `type_info::write::marked_size` meets its contract: names that fit are short, so that the sum does not wrap. Assumes nothing.
-use mathlib.Core.Path.{_≡_, refl, sym, ap, _∙_}
+use mathlib.Core.Path.{sym}
 use native.Mathlib.Omega.{arith}
 use Rattle.type_info.proofs.WriteLaws.{fitting, length-names}
 use borrow.Author.Needs.{needs}

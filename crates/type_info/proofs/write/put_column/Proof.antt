@@ -1,5 +1,4 @@
 -- `type_info::write::put_column` meets its contract: five runs of stores are one. Assumes nothing.
-use mathlib.Core.Path.{_≡_, refl, sym, ap, _∙_}
 use native.Mathlib.Omega.{arith}
 use Rattle.type_info.specs.Told.{typeTold, columnTold}
 use Rattle.type_info.proofs.WriteLaws.{length-width, length-column, column-stored}

@@ -1,7 +1,7 @@
 -- `type_info::write::put_digits` meets its contract: two stores, or none. Assumes nothing.
-use mathlib.Core.Path.{_≡_, refl, sym, ap, _∙_}
+use mathlib.Core.Path.{sym, _∙_}
 use native.Mathlib.Omega.{arith}
-use mathlib.Core.List.{List, [], _∷_}
+use mathlib.Core.List.{[], _∷_}
 use native.Mathlib.Nat.{add-zero}
 use Rattle.lists.proofs.Front.{sets-more}
 use borrow.Author.Needs.{needs}

@@ -1,7 +1,6 @@
 -- `type_info::write::put_marked` meets its contract: the marker, and the names behind it. Assumes nothing.
-use mathlib.Core.Path.{_≡_, refl, sym, ap, _∙_}
 use native.Mathlib.Omega.{arith}
-use mathlib.Core.List.{List, [], _∷_, _++_}
+use mathlib.Core.List.{[], _∷_, _++_}
 use Rattle.format.specs.Descriptor.{nameBytes}
 use Rattle.lists.proofs.Front.{sets-more}
 use Rattle.type_info.specs.Told.{nameTold}

@@ -1,5 +1,5 @@
 -- `type_info::write::put_name` meets its contract: the count, and the units behind it. Assumes nothing.
-use mathlib.Core.Path.{_≡_, refl, sym, ap, _∙_}
+use mathlib.Core.Path.{refl}
 use Rattle.type_info.proofs.WriteLaws.{name-stored}
 use borrow.Author.Needs.{needs}
 use Rattle.type_info.proofs.write.put_name.Statement.{statement}

@@ -1,5 +1,5 @@
 -- `type_info::write::put_names` meets its contract: three runs of stores are one. Assumes nothing.
-use mathlib.Core.Path.{_≡_, refl, sym, ap, _∙_}
+use mathlib.Core.Path.{sym, ap, _∙_}
 use mathlib.Core.List.{_++_}
 use Prim.Native.Nat.{_+_}
 use Rattle.format.specs.Descriptor.{nameBytes}

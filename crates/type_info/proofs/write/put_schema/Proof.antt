@@ -1,5 +1,5 @@
 -- `type_info::write::put_schema` meets its contract: only Xml has one. Assumes nothing.
-use mathlib.Core.Path.{_≡_, refl, sym, ap, _∙_}
+use mathlib.Core.Path.{sym, _∙_}
 use Rattle.type_info.specs.Told.{typeTold, schemaTold}
 use Rattle.type_info.proofs.WriteLaws.{is-xml, not-xml}
 use borrow.Author.Needs.{needs}

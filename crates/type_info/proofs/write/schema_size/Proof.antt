@@ -1,5 +1,5 @@
 -- `type_info::write::schema_size` meets its contract: only Xml has one. Assumes nothing.
-use mathlib.Core.Path.{_≡_, refl, sym, ap, _∙_}
+use mathlib.Core.Path.{sym, ap, _∙_}
 use lib.ListN.{length}
 use Rattle.type_info.specs.Told.{typeTold, schemaTold}
 use Rattle.type_info.proofs.WriteLaws.{is-xml, not-xml}

@@ -1,5 +1,4 @@
 -- `type_info::write::size_of` meets its contract: the parts one behind another. Assumes nothing.
-use mathlib.Core.Path.{_≡_, refl, sym, ap, _∙_}
 use native.Mathlib.Omega.{arith}
 use Rattle.type_info.specs.Told.{typeTold, columnTold}
 use Rattle.type_info.proofs.WriteLaws.{length-width, length-column}

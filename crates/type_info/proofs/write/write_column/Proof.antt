@@ -1,5 +1,5 @@
 -- `type_info::write::write_column` meets its contract: the size's refusal, refusal 4, or the bytes. Assumes nothing.
-use mathlib.Core.Path.{_≡_, refl, sym, ap, _∙_}
+use mathlib.Core.Path.{sym, ap, _∙_}
 use native.Mathlib.Omega.{arith}
 use Rattle.lists.proofs.Front.{sets-front}
 use Rattle.format.specs.Descriptor.{columnBytes, writeColumn}
