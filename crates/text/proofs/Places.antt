@@ -1,4 +1,4 @@
--- One character at a place: byte by byte for UTF-8, unit by unit for UTF-16LE.
+-- One character of UTF-8 at a place, byte by byte: each byte stands in the range that table 3-7 has for it, or the text is none.
 -- Assumes nothing.
 use mathlib.Core.Path.{_≡_, refl, ap, sym, _∙_}
 use mathlib.Core.List.{List, [], _∷_}
@@ -33,8 +33,6 @@ module _ (s : List ℕ) (at : ℕ) where
     stands-true e =
         less at (length s) (λ h. let i = in-between low high (getD s at 0) (stands-is h ∙ e) in (h, i .0, i .1))
         (λ h. no-truth (stands-end h ∙ e))
-
-  -- ---- UTF-8
 
   -- the second byte, and one that follows it
   module _ (a : ℕ) (r : T.Row) where
@@ -81,7 +79,7 @@ module _ (s : List ℕ) (at : ℕ) where
     pub char8-none : 0x80 ≤ getD s at 0 → leadIn wellFormed (getD s at 0) ≡ none → stops notText ≡ char8 (drop at s)
     char8-none k e = sym (ap char8 (drop-next h) ∙ lead-none (getD s at 0) (drop (at + 1) s) k e)
 
--- ---- UTF-8: the bytes behind the first, by the row that it chose
+-- ---- the bytes behind the first, by the row that it chose
 
 module _ (s : List ℕ) (at a x : ℕ) (r : T.Row) (e : x ≡ getD s at 0 - 0x80) (h : standsIn (r .low) (r .high) (drop at s) ≡ true) where
   abbrev second : ℕ
