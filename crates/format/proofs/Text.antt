@@ -16,7 +16,7 @@ use Rattle.format.specs.Text.{char8, utf8, char16, utf16, scalars, spell
 use Rattle.format.proofs.Answer.{and-took, passed}
 use Rattle.format.proofs.Number.{Bytes}
 use Rattle.format.proofs.Plain.{bytes-append, bytes-low}
-use Rattle.format.proofs.Scalars.{less, converted, Form, spelled-back, spelled-forth}
+use Rattle.format.proofs.Characters.{less, converted, Form, spelled-back, spelled-forth}
 use Rattle.format.proofs.Utf8.{utf8-one, utf8-two, utf8-three, utf8-four, char8-back, char8-forth}
 use Rattle.format.proofs.Utf16.{utf16-one, utf16-two, char16-back, char16-forth}
 

@@ -15,7 +15,7 @@ use Rattle.format.specs.Text.{between, unit, pair16, char16, utf16}
 use Rattle.format.proofs.Answer.{no-truth}
 use Rattle.format.proofs.Number.{Bytes}
 use Rattle.format.proofs.Place.{no-took}
-use Rattle.format.proofs.Scalars.{between-in, between-below, between-above, in-between, less, Scalar, below, above, Forth, forth-is}
+use Rattle.format.proofs.Characters.{between-in, between-below, between-above, in-between, less, Scalar, below, above, Forth, forth-is}
 
 -- ---- by the units in front
 

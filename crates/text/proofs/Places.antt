@@ -12,7 +12,7 @@ use Rattle.format.specs.Answer.{took, stops, notText}
 use Rattle.format.specs.Text.{between, wellFormed, second8, tail8, char8}
 use Rattle.format.specs.Text as T
 use Rattle.format.proofs.Answer.{no-truth}
-use Rattle.format.proofs.Scalars.{less, in-between}
+use Rattle.format.proofs.Characters.{less, in-between}
 use Rattle.format.proofs.Utf8.{first-ascii}
 use Rattle.text.specs.Told.{standsIn, chosen, none, leadIn}
 use Rattle.text.proofs.Rows.{lead-row, lead-none}

@@ -10,7 +10,7 @@ use Rattle.lists.proofs.Split.{split}
 use Rattle.format.specs.Answer.{Read, stops, notText}
 use Rattle.format.specs.Text.{between, wellFormed, second8, among8, char8}
 use Rattle.format.specs.Text as T
-use Rattle.format.proofs.Scalars.{in-between}
+use Rattle.format.proofs.Characters.{in-between}
 use Rattle.format.proofs.Utf8.{first-other}
 use Rattle.text.specs.Told.{row, Led, Chosen, chosen, none, leadIn}
 

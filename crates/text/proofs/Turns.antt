@@ -13,7 +13,7 @@ use Rattle.format.specs.Answer.{Answer, gives, refuses, Refusal, Read, took, st
 use Rattle.format.specs.Text.{char8, utf8, char16, utf16, scalars, spelled}
 use Rattle.format.proofs.Answer.{no-gives}
 use Rattle.format.proofs.Number.{Bytes}
-use Rattle.format.proofs.Scalars.{converted, converted-took, converted-stops, scalar-last, taking}
+use Rattle.format.proofs.Characters.{converted, converted-took, converted-stops, scalar-last, taking}
 use Rattle.format.proofs.Text.{form8, form16, utf16-short, utf8-short}
 
 -- ---- a character at a place

@@ -5,7 +5,7 @@ use native.Mathlib.Omega.{arith}
 use lib.ListN.{drop, length-drop}
 use denote.Ref.{now}
 use Rattle.format.specs.Text.{between}
-use Rattle.format.proofs.Scalars.{in-between}
+use Rattle.format.proofs.Characters.{in-between}
 use Rattle.text.proofs.Units.{first-short, first-high, first-low, first-one}
 use borrow.Author.Needs.{needs}
 use Rattle.text.proofs.utf16.char16_at.Statement.{statement}
