@@ -4,7 +4,7 @@ pub mod Number
 pub mod Guid
 pub mod Place
 pub mod Plain
-pub mod Scalars
+pub mod Characters
 pub mod Utf8
 pub mod Utf16
 pub mod Text

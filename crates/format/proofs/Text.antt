@@ -2,19 +2,21 @@
 -- read. Beside it, what UTF-16LE of a text is: an even number of bytes, at most twice as many as the UTF-8.
 -- Assumes nothing.
 use mathlib.Core.Path.{_≡_, refl, ap, sym, _∙_, subst}
-use mathlib.Core.List.{List, [], _∷_, _++_}
+use mathlib.Core.List.{List, [], _∷_}
 use mathlib.Core.Bool.{not}
-use Prim.Native.Nat.{ℕ, zero, suc, _+_, _*_, _%_, _<_, _≤_}
+use Prim.Native.Nat.{ℕ, _+_, _*_, _-_, _/_, _%_, _<_, _≤_}
 use native.Mathlib.Omega.{arith}
 use lib.ListN.{length, length-append}
 use lib.Seq.{getD-drop}
 use lib.Dec.{eqb}
 use borrow.Author.Tests.{eq-eqb, ne-eqb}
-use Rattle.lists.proofs.Split.{split}
-use Rattle.format.specs.Answer.{Answer, gives, refuses, Read, sequence, andThen}
+use Rattle.format.specs.Answer.{gives, refuses, Read, sequence}
+use Rattle.format.specs.Number.{lowBytes}
 use Rattle.format.specs.Text.{char8, utf8, char16, utf16, scalars, spelled, textIn, textOut}
+use Rattle.format.proofs.Answer.{and-took, passed}
 use Rattle.format.proofs.Number.{Bytes}
-use Rattle.format.proofs.Scalars.{less, no-gives, converted, Form, Each, spelled-back, spelled-forth}
+use Rattle.format.proofs.Plain.{bytes-append, bytes-low}
+use Rattle.format.proofs.Characters.{less, converted, Form, spelled-back, spelled-forth}
 use Rattle.format.proofs.Utf8.{utf8-one, utf8-two, utf8-three, utf8-four, char8-back, char8-forth}
 use Rattle.format.proofs.Utf16.{utf16-one, utf16-two, char16-back, char16-forth}
 
@@ -63,11 +65,9 @@ utf8-short c =
 
 -- what a conversion gives, it spells of what it read
 pub converted-gives : (char : List ℕ → Read ℕ) (spell : ℕ → List ℕ) (s u : List ℕ) → converted char spell s ≡ gives u → (cs : List ℕ) × (scalars char 0 s ≡ gives cs) × (spelled spell cs ≡ u)
-converted-gives char spell s u h = go (scalars char 0 s) refl h
-  where
-    go : (a : Answer (List ℕ)) → scalars char 0 s ≡ a → andThen a (λ cs. gives (spelled spell cs)) ≡ gives u → (cs : List ℕ) × (scalars char 0 s ≡ gives cs) × (spelled spell cs ≡ u)
-    go (gives cs) e g = (cs, e, cc)
-    go (refuses e) q g = no-gives e u g
+converted-gives char spell s u h =
+    let p = and-took (scalars char 0 s) (λ cs. gives (spelled spell cs)) u h in
+    (p .0, p .1, cc (p .2))
 
 pub in-gives : (s u : List ℕ) → textIn s ≡ gives u → converted char8 utf16 s ≡ gives u
 unfolding textIn
@@ -84,37 +84,35 @@ out-odd u h = rw (ne-eqb (length u % 2) 0 h)
 
 pub out-gives : (u s : List ℕ) → textOut u ≡ gives s → converted char16 utf8 u ≡ gives s
 unfolding textOut
-out-gives u s h = split (not (eqb (length u % 2) 0)) (λ e q. no-gives sequence s q) (λ e q. q) h
+out-gives u s h = passed (not (eqb (length u % 2) 0)) sequence (converted char16 utf8 u) s h .1
+
+-- what scalar values are in UTF-16LE: an even number of bytes
+utf16-even : (c : ℕ) → length (utf16 c) % 2 ≡ 0
+utf16-even c = utf16-length c (λ n. n % 2 ≡ 0) (λ i. refl) (λ i. refl)
+
+utf16-bytes : (c : ℕ) → Bytes (utf16 c)
+utf16-bytes c =
+    let a = 0xD800 + (c - 0x10000) / 1024 in
+    let b = 0xDC00 + (c - 0x10000) % 1024 in
+    less c 0x10000 (λ i. subst Bytes (sym (utf16-one c i)) (bytes-low 2 c))
+    (λ i. subst Bytes (sym (utf16-two c i)) (bytes-append (lowBytes 2 a) (lowBytes 2 b) (bytes-low 2 a) (bytes-low 2 b)))
 
 spelled-even : (cs : List ℕ) → length (spelled utf16 cs) % 2 ≡ 0
 unfolding spelled
 spelled-even [] = refl
-spelled-even (c ∷ cs) =
-    rw (length-append (utf16 c) (spelled utf16 cs)) (utf16-length c (λ n. (n + length (spelled utf16 cs)) % 2 ≡ 0) (λ i. omega (arith, spelled-even cs)) (λ i. omega (arith, spelled-even cs)))
+spelled-even (c ∷ cs) = omega (arith, length-append (utf16 c) (spelled utf16 cs), utf16-even c, spelled-even cs)
 
+spelled-bytes : (cs : List ℕ) → Bytes (spelled utf16 cs)
+unfolding spelled
+spelled-bytes [] = λ i. omega arith
+spelled-bytes (c ∷ cs) = bytes-append (utf16 c) (spelled utf16 cs) (utf16-bytes c) (spelled-bytes cs)
+
+-- and at most twice as many as in UTF-8
 spelled-short : (cs : List ℕ) → length (spelled utf16 cs) ≤ 2 * length (spelled utf8 cs)
 unfolding spelled
 spelled-short [] = omega arith
 spelled-short (c ∷ cs) =
     omega (arith, length-append (utf16 c) (spelled utf16 cs), length-append (utf8 c) (spelled utf8 cs), utf16-short c, spelled-short cs)
-
--- every element is a byte, said of each and of every place
-each-bytes : (l : List ℕ) → Each (λ b. b < 256) l → Bytes l
-each-bytes [] h i = omega arith
-each-bytes (b ∷ l) h zero = h .0
-each-bytes (b ∷ l) h (suc i) = each-bytes l (h .1) i
-
-each-append : (P : ℕ → Type 0) (l m : List ℕ) → Each P l → Each P m → Each P (l ++ m)
-each-append P [] m h k = k
-each-append P (b ∷ l) m h k = (h .0, each-append P l m (h .1) k)
-
-utf16-bytes : (c : ℕ) → Each (λ b. b < 256) (utf16 c)
-utf16-bytes c = less c 0x10000 (λ i. rw (utf16-one c i) (omega arith)) (λ i. rw (utf16-two c i) (omega arith))
-
-spelled-bytes : (cs : List ℕ) → Each (λ b. b < 256) (spelled utf16 cs)
-unfolding spelled
-spelled-bytes [] = tt
-spelled-bytes (c ∷ cs) = each-append (λ b. b < 256) (utf16 c) (spelled utf16 cs) (utf16-bytes c) (spelled-bytes cs)
 
 -- ---- the theorems
 
@@ -141,4 +139,4 @@ in-short s u h =
     omega (arith, ap length (p .2), ap length (spelled-forth form8 s (p .0) tt (p .1) .0), spelled-short (p .0))
 
 pub in-bytes : (s u : List ℕ) → textIn s ≡ gives u → Bytes u
-in-bytes s u h = let p = converted-gives char8 utf16 s u (in-gives s u h) in rw (p .2) at (each-bytes (spelled utf16 (p .0)) (spelled-bytes (p .0)))
+in-bytes s u h = let p = converted-gives char8 utf16 s u (in-gives s u h) in rw (p .2) at (spelled-bytes (p .0))

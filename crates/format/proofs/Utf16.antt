@@ -12,9 +12,10 @@ use Rattle.lists.proofs.Split.{split}
 use Rattle.format.specs.Answer.{took, notText}
 use Rattle.format.specs.Number.{lowBytes}
 use Rattle.format.specs.Text.{between, unit, pair16, char16, utf16}
+use Rattle.format.proofs.Answer.{no-truth}
 use Rattle.format.proofs.Number.{Bytes}
 use Rattle.format.proofs.Place.{no-took}
-use Rattle.format.proofs.Scalars.{between-in, between-below, between-above, in-between, less, Scalar, below, above, Forth, forth-is}
+use Rattle.format.proofs.Characters.{between-in, between-below, between-above, in-between, less, Scalar, below, above, Forth, forth-is}
 
 -- ---- by the units in front
 
@@ -77,12 +78,9 @@ unit-bytes x y s i j =
 outside : (n : ℕ) → between 0xD800 0xDBFF n ≡ false → between 0xDC00 0xDFFF n ≡ false → n < 0x10000 → Scalar n
 outside n e f l =
     less n 0xD800 (λ i. below i)
-    (λ i. less n 0xDC00 (λ j. both (sym e ∙ between-in 0xD800 0xDBFF n i (omega arith)))
+    (λ i. less n 0xDC00 (λ j. no-truth (sym e ∙ between-in 0xD800 0xDBFF n i (omega arith)))
     (λ j. less 0xDFFF n (λ k. above k (omega arith))
-    (λ k. both (sym f ∙ between-in 0xDC00 0xDFFF n j k))))
-  where
-    both : {P : Type 0} → false ≡ true → P
-    both h = let z : _≡_ {A = ℕ} 0 1 = cc in absurd (omega arith)
+    (λ k. no-truth (sym f ∙ between-in 0xDC00 0xDFFF n j k))))
 
 module _ (c n : ℕ) where
   forth-pair : (x y : ℕ) (s : List ℕ) → x < 256 → y < 256 → Bytes s → between 0xD800 0xDBFF (unit (x ∷ y ∷ s)) ≡ true → pair16 (unit (x ∷ y ∷ s)) s ≡ took c n → Forth utf16 (x ∷ y ∷ s) c n

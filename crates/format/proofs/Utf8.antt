@@ -12,7 +12,7 @@ use Rattle.lists.proofs.Split.{split}
 use Rattle.format.specs.Answer.{took, notText}
 use Rattle.format.specs.Text.{between, Row, wellFormed, tail8, second8, among8, char8, utf8}
 use Rattle.format.proofs.Place.{no-took}
-use Rattle.format.proofs.Scalars.{between-in, between-above, in-between, less, Scalar, below, above, Forth, forth-is}
+use Rattle.format.proofs.Characters.{between-in, between-above, in-between, less, Scalar, below, above, Forth, forth-is}
 
 -- ---- UTF-8: the table's row by the first byte, then byte by byte
 

@@ -1,4 +1,4 @@
--- One character at a place: byte by byte for UTF-8, unit by unit for UTF-16LE.
+-- One character of UTF-8 at a place, byte by byte: each byte stands in the range that table 3-7 has for it, or the text is none.
 -- Assumes nothing.
 use mathlib.Core.Path.{_≡_, refl, ap, sym, _∙_}
 use mathlib.Core.List.{List, [], _∷_}
@@ -11,7 +11,8 @@ use lib.Seq.{drop-cons}
 use Rattle.format.specs.Answer.{took, stops, notText}
 use Rattle.format.specs.Text.{between, wellFormed, second8, tail8, char8}
 use Rattle.format.specs.Text as T
-use Rattle.format.proofs.Scalars.{less, in-between}
+use Rattle.format.proofs.Answer.{no-truth}
+use Rattle.format.proofs.Characters.{less, in-between}
 use Rattle.format.proofs.Utf8.{first-ascii}
 use Rattle.text.specs.Told.{standsIn, chosen, none, leadIn}
 use Rattle.text.proofs.Rows.{lead-row, lead-none}
@@ -31,9 +32,7 @@ module _ (s : List ℕ) (at : ℕ) where
     pub stands-true : standsIn low high (drop at s) ≡ true → (at < length s) × (low ≤ getD s at 0) × (getD s at 0 ≤ high)
     stands-true e =
         less at (length s) (λ h. let i = in-between low high (getD s at 0) (stands-is h ∙ e) in (h, i .0, i .1))
-        (λ h. let q : false ≡ true = stands-end h ∙ e in let z : _≡_ {A = ℕ} 0 1 = cc in absurd (omega arith))
-
-  -- ---- UTF-8
+        (λ h. no-truth (stands-end h ∙ e))
 
   -- the second byte, and one that follows it
   module _ (a : ℕ) (r : T.Row) where
@@ -80,7 +79,7 @@ module _ (s : List ℕ) (at : ℕ) where
     pub char8-none : 0x80 ≤ getD s at 0 → leadIn wellFormed (getD s at 0) ≡ none → stops notText ≡ char8 (drop at s)
     char8-none k e = sym (ap char8 (drop-next h) ∙ lead-none (getD s at 0) (drop (at + 1) s) k e)
 
--- ---- UTF-8: the bytes behind the first, by the row that it chose
+-- ---- the bytes behind the first, by the row that it chose
 
 module _ (s : List ℕ) (at a x : ℕ) (r : T.Row) (e : x ≡ getD s at 0 - 0x80) (h : standsIn (r .low) (r .high) (drop at s) ≡ true) where
   abbrev second : ℕ

@@ -5,13 +5,18 @@ use mathlib.Core.List.{List, [], _∷_}
 use mathlib.Core.Bool.{Bool, true, false}
 use Prim.Native.Nat.{ℕ, _≤_}
 use native.Mathlib.Omega.{arith}
+use lib.ListN.{drop}
 use Rattle.lists.proofs.Split.{split}
 use Rattle.format.specs.Answer.{Read, stops, notText}
 use Rattle.format.specs.Text.{between, wellFormed, second8, among8, char8}
 use Rattle.format.specs.Text as T
-use Rattle.format.proofs.Scalars.{in-between}
+use Rattle.format.proofs.Characters.{in-between}
 use Rattle.format.proofs.Utf8.{first-other}
 use Rattle.text.specs.Told.{row, Led, Chosen, chosen, none, leadIn}
+
+-- the rows before the k-th are not the byte's
+abbrev pub Past : ℕ → ℕ → Type 0
+Past k a = leadIn wellFormed a ≡ leadIn (drop k wellFormed) a
 
 module _ (r : T.Row) (rs : List T.Row) (a : ℕ) (b : Bool) where
   pub row-past : b ≡ between (r .first) (r .last) a → b ≡ false → leadIn (r ∷ rs) a ≡ leadIn rs a

@@ -5,8 +5,8 @@ use mathlib.Core.List.{List, [], _++_}
 use Prim.Native.Nat.{ℕ, _<_, _≤_}
 use native.Mathlib.Omega.{arith}
 use lib.ListN.{length, drop}
-use Rattle.format.specs.Answer.{Answer, gives, refuses, Refusal, room, fitted, wrote, roomAfter}
-use Rattle.format.proofs.Scalars.{no-gives}
+use Rattle.format.specs.Answer.{Answer, gives, refuses, room, fitted, wrote, roomAfter}
+use Rattle.format.proofs.Answer.{no-gives}
 use Rattle.wire.proofs.Writing.{no-room, has-room}
 use Rattle.text.specs.Told.{Fitting}
 
@@ -28,27 +28,21 @@ after-given (refuses e) out q = no-gives e [] q
 abbrev Leaves : Answer ℕ → List ℕ → Answer (List ℕ) → List ℕ → Type 0
 Leaves told new a out = (told ≡ wrote (fitted a (length out))) × (new ≡ roomAfter (fitted a (length out)) out)
 
-module _ (out : List ℕ) where
-  pub sized-refused : (a : Answer (List ℕ)) (e : Refusal) → refuses e ≡ wrote a → Leaves (refuses e) out a out
-  unfolding wrote fitted roomAfter
-  sized-refused (gives b) e h = no-gives e (length b) h
-  sized-refused (refuses d) e h = (h, refl)
+module _ (out : List ℕ) (n : ℕ) where
+  pub sized-short : (a : Answer (List ℕ)) → gives n ≡ wrote a → length out < n → Leaves (refuses room) out a out
+  unfolding wrote
+  sized-short (gives b) h k = let e : n ≡ length b = cc in no-room b out (omega arith)
+  sized-short (refuses d) h k = no-gives d n (sym h)
 
-  module _ (n : ℕ) where
-    pub sized-short : (a : Answer (List ℕ)) → gives n ≡ wrote a → length out < n → Leaves (refuses room) out a out
-    unfolding wrote
-    sized-short (gives b) h k = let e : n ≡ length b = cc in no-room b out (omega arith)
-    sized-short (refuses d) h k = no-gives d n (sym h)
+  pub sized-fits : (a : Answer (List ℕ)) → gives n ≡ wrote a → n ≤ length out → Fitting a (length out)
+  unfolding wrote
+  sized-fits (gives b) h k = let e : n ≡ length b = cc in omega arith
+  sized-fits (refuses d) h k = no-gives d n (sym h)
 
-    pub sized-fits : (a : Answer (List ℕ)) → gives n ≡ wrote a → n ≤ length out → Fitting a (length out)
-    unfolding wrote
-    sized-fits (gives b) h k = let e : n ≡ length b = cc in omega arith
-    sized-fits (refuses d) h k = no-gives d n (sym h)
-
-    pub sized-written : (a : Answer (List ℕ)) (new : List ℕ) → gives n ≡ wrote a → n ≤ length out → new ≡ roomAfter a out → Leaves (gives n) new a out
-    unfolding wrote roomAfter
-    sized-written (gives b) new h k w =
-        let e : n ≡ length b = cc in
-        let p = has-room b out n (sym e) (omega arith) in
-        (p .0, w ∙ p .1)
-    sized-written (refuses d) new h k w = no-gives d n (sym h)
+  pub sized-written : (a : Answer (List ℕ)) (new : List ℕ) → gives n ≡ wrote a → n ≤ length out → new ≡ roomAfter a out → Leaves (gives n) new a out
+  unfolding wrote roomAfter
+  sized-written (gives b) new h k w =
+      let e : n ≡ length b = cc in
+      let p = has-room b out n (sym e) (omega arith) in
+      (p .0, w ∙ p .1)
+  sized-written (refuses d) new h k w = no-gives d n (sym h)

@@ -11,8 +11,9 @@ use Rattle.lists.specs.Put.{putAt, front}
 use Rattle.lists.proofs.Front.{front-end, room-more, grown}
 use Rattle.format.specs.Answer.{Answer, gives, refuses, Refusal, Read, took, stops, andThen, wrote}
 use Rattle.format.specs.Text.{char8, utf8, char16, utf16, scalars, spelled}
+use Rattle.format.proofs.Answer.{no-gives}
 use Rattle.format.proofs.Number.{Bytes}
-use Rattle.format.proofs.Scalars.{converted, converted-took, converted-stops, no-gives, scalar-last, taking}
+use Rattle.format.proofs.Characters.{converted, converted-took, converted-stops, scalar-last, taking}
 use Rattle.format.proofs.Text.{form8, form16, utf16-short, utf8-short}
 
 -- ---- a character at a place
@@ -25,7 +26,7 @@ pub record Stands (char : List ℕ → Read ℕ) (s : List ℕ) (at c k : ℕ) :
   pub is : took c k ≡ char (drop at s)
 
 -- what was read in UTF-8, and how long it is in UTF-16LE
-module _ (s : List ℕ) (at c k : ℕ) where
+module _ {s : List ℕ} {at c k : ℕ} where
   pub stands8 : at < length s → took c k ≡ char8 (drop at s) → Stands char8 s at c k
   stands8 h e =
       let t = taking form8 (drop at s) c k tt (sym e) in
@@ -93,8 +94,8 @@ module _ {char : List ℕ → Read ℕ} {spell : ℕ → List ℕ} {s : List ℕ
   behind-is : (a : Answer (List ℕ)) → converted char spell (drop at s) ≡ a → wrote (converted char spell s) ≡ plus n (wrote a)
   behind-is a e = z .behind ∙ ap (λ (x : Answer (List ℕ)). plus n (wrote x)) e
 
-  pub size-more : (c k m : ℕ) → m ≡ length (spell c) → Stands char s at c k → Sizing char spell s (at + k) (n + m)
-  size-more c k m l r =
+  pub size-more : {c k m : ℕ} → m ≡ length (spell c) → Stands char s at c k → Sizing char spell s (at + k) (n + m)
+  size-more {c} {k} l r =
       let rest = converted char spell (drop (at + k) s) in
       record {
         inside = r .inside;
@@ -104,9 +105,9 @@ module _ {char : List ℕ → Read ℕ} {spell : ℕ → List ℕ} {s : List ℕ
             ∙ (ap (plus n) (wrote-behind (spell c) rest) ∙ plus-plus n (length (spell c)) (wrote rest)));
       }
 
-  pub size-stop : (e : Refusal) → at < length s → stops e ≡ char (drop at s) → refuses e ≡ wrote (converted char spell s)
+  pub size-stop : {e : Refusal} → at < length s → stops e ≡ char (drop at s) → refuses e ≡ wrote (converted char spell s)
   unfolding wrote
-  size-stop e h q = sym (behind-is (refuses e) (from-stops char spell s at e h q))
+  size-stop {e} h q = sym (behind-is (refuses e) (from-stops char spell s at e h q))
 
   pub size-end : length s ≤ at → gives n ≡ wrote (converted char spell s)
   unfolding wrote
@@ -122,7 +123,7 @@ pub record Writing (char : List ℕ → Read ℕ) (spell : ℕ → List ℕ) (s 
   pub left : converted char spell (drop at s) ≡ gives (drop o j)
 
 module _ {char : List ℕ → Read ℕ} {spell : ℕ → List ℕ} {s j out₀ out : List ℕ} {at o : ℕ} (w : Writing char spell s j out₀ out at o) where
-  module _ (c k : ℕ) (r : Stands char s at c k) (room : length j ≤ length out₀) where
+  module _ {c k : ℕ} (r : Stands char s at c k) (room : length j ≤ length out₀) where
     -- the character's bytes are the next of j
     next : (rest : List ℕ) × (drop o j ≡ spell c ++ rest) × (converted char spell (drop (at + k) s) ≡ gives rest)
     next = go (converted char spell (drop (at + k) s)) refl
@@ -137,13 +138,13 @@ module _ {char : List ℕ → Read ℕ} {spell : ℕ → List ℕ} {s j out₀ o
     pub write-room : o + length (spell c) ≤ length out
     write-room = omega (arith, room-more j out out₀ (spell c) (next .0) o (w .within) room (w .holds) (next .1), w .same)
 
-    pub write-more : (new : List ℕ) (n : ℕ) → n ≡ length (spell c) → new ≡ putAt out o (spell c) → Writing char spell s j out₀ new (at + k) (o + n)
-    write-more new n l g =
+    pub write-more : {new : List ℕ} {n : ℕ} → n ≡ length (spell c) → new ≡ putAt out o (spell c) → Writing char spell s j out₀ new (at + k) (o + n)
+    write-more {new} {n} l g =
         let m = grown j out out₀ (spell c) (next .0) new o n (sym l) (w .within) room (w .same) (w .holds) (next .1) g in
         record { inside = r .inside; within = m .room; same = m .same; holds = m .holds; left = next .2 ∙ ap gives (sym (m .left)) }
 
-  pub write-stop : {P : Type 0} (e : Refusal) → at < length s → stops e ≡ char (drop at s) → P
-  write-stop e h q = no-gives e (drop o j) (sym (from-stops char spell s at e h q) ∙ w .left)
+  pub write-stop : {P : Type 0} {e : Refusal} → at < length s → stops e ≡ char (drop at s) → P
+  write-stop {e = e} h q = no-gives e (drop o j) (sym (from-stops char spell s at e h q) ∙ w .left)
 
   pub write-end : length s ≤ at → out ≡ j ++ drop (length j) out₀
   write-end h =

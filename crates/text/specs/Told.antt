@@ -1,4 +1,4 @@
--- What this crate's declared types tell, in the words of `format`.
+-- What this crate's declared types tell, in the words of `format`, and what its leaves ask of their callers.
 use Prim.Native.Nat.{ℕ, _+_, _≤_, _<_}
 use mathlib.Core.List.{List, [], _∷_}
 use mathlib.Core.Bool.{Bool, false}
@@ -14,6 +14,7 @@ use Rattle.text.specs.declared.utf8.Row.{Row}
 use Rattle.text.specs.declared.utf8.Lead.{Lead}
 use Rattle.text.specs.declared.utf8.Lead.the-variants as L
 
+-- one character: its scalar value and how many bytes it took
 abbrev pub charTold : CharRead → Read ℕ
 charTold (C.Char c n) = took c n
 charTold (C.Refused e) = stops (refusalTold e)
@@ -28,12 +29,12 @@ abbrev pub standsIn : ℕ → ℕ → List ℕ → Bool
 standsIn low high [] = false
 standsIn low high (b ∷ s) = between low high b
 
--- a row of table 3-7 without its first byte's range, which has been chosen by
-abbrev pub rowTold : Row → T.Row
-rowTold r = record { first = 0; last = 0; marker = r .marker; low = r .low; high = r .high; more = r .more }
-
+-- a row of table 3-7 without its first byte's range, which it was chosen by
 abbrev pub row : ℕ → ℕ → ℕ → ℕ → T.Row
 row m l h o = record { first = 0; last = 0; marker = m; low = l; high = h; more = o }
+
+abbrev pub rowTold : Row → T.Row
+rowTold r = row (r .marker) (r .low) (r .high) (r .more)
 
 -- the row that a first byte chooses, or none
 pub data Chosen : Type 0 where

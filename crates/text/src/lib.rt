@@ -1,7 +1,7 @@
 // UTF-8 to UTF-16LE and back. A first pass judges the text and finds the size, a second one writes.
 mod inner;
-pub mod utf16;
-pub mod utf8;
+mod utf16;
+mod utf8;
 
 ghost use mathlib.Core.Path.{_≡_};
 ghost use lib.ListN.{length};
@@ -12,7 +12,7 @@ use wire::Refusal;
 use wire::Wrote;
 
 // One character at a place: its scalar value and how many bytes it took.
-pub enum CharRead {
+enum CharRead {
     Char(u32, usize),
     Refused(Refusal),
 }

@@ -29,7 +29,7 @@ pub fn char16_at(s: &[u8], at: usize) -> CharRead
 }
 
 // How many bytes a scalar value takes.
-pub(crate) fn size16(c: u32) -> usize
+pub fn size16(c: u32) -> usize
     ensures { λ r. ⌜ r ≡ length (utf16 c) ⌝ }
 {
     if c < 0x10000 {

@@ -10,14 +10,14 @@ use wire::Refusal;
 
 // A row of the table, by its first byte: the first byte's marker bits, the second byte's range, and
 // how many bytes of 80 to BF follow the second.
-pub(crate) struct Row {
+pub struct Row {
     pub marker: u32,
     pub low: u32,
     pub high: u32,
     pub more: u32,
 }
 
-pub(crate) enum Lead {
+pub enum Lead {
     Row(Row),
     None,
 }
@@ -66,7 +66,7 @@ fn row_of(a: u32) -> Lead
 }
 
 // Whether a byte from low up to high stands at a place.
-pub(crate) fn stands(s: &[u8], at: usize, low: u32, high: u32) -> bool
+pub fn stands(s: &[u8], at: usize, low: u32, high: u32) -> bool
     ensures { λ r. ⌜ r ≡ standsIn low high (drop at (now (s .entry))) ⌝ }
 {
     if s.len() <= at {
@@ -94,7 +94,7 @@ pub fn char8_at(s: &[u8], at: usize) -> CharRead
 }
 
 // How many bytes a scalar value takes.
-pub(crate) fn size8(c: u32) -> usize
+pub fn size8(c: u32) -> usize
     ensures { λ r. ⌜ r ≡ length (utf8 c) ⌝ }
 {
     if c < 0x80 {

@@ -1,21 +1,19 @@
--- No two outcomes satisfy the contract of a public call of this crate. Where the answer is told, telling has an inverse; a name that was read is told by its
--- bytes alone, and the contract's second clause fixes where it stands.
+-- No two outcomes satisfy the contract of `type_info::read::read_column`: telling has an inverse, but for a name, which is told by its bytes alone, and the
+-- contract's second clause fixes where it stands.
 -- Assumes nothing.
 use mathlib.Core.Path.{_≡_, refl, sym, ap, _∙_}
 use mathlib.Core.List.{List}
-use mathlib.Core.Bool.{Bool}
 use mathlib.Core.Option.{Option, none, some}
 use Prim.Native.Nat.{ℕ, _+_, _*_}
 use native.Mathlib.Omega.{arith}
 use lib.ListN.{length}
-use Rattle.format.specs.Answer.{Answer, gives, refuses, readAt, fitted, wrote, roomAfter, inside}
+use Rattle.format.specs.Answer.{readAt, inside}
 use Rattle.format.specs.Descriptor as D
-use Rattle.format.specs.Descriptor.{typeOf, typeByte, readColumn, writeColumn, keepsRule}
-use Rattle.format.proofs.Decided.{Undoes, decided, one-room}
-use Rattle.wire.specs.declared.Wrote.{Wrote}
+use Rattle.format.specs.Descriptor.{readColumn}
+use Rattle.format.proofs.Decided.{Undoes, decided}
 use Rattle.wire.specs.declared.Cursor.{Cursor}
-use Rattle.wire.specs.Told.{wroteTold, refusalTold}
-use Rattle.wire.proofs.Decided.{refusalBack, refusal-undoes, wrote-decided}
+use Rattle.wire.specs.Told.{refusalTold}
+use Rattle.wire.proofs.Decided.{refusalBack, refusal-undoes}
 use Rattle.type_info.specs.declared.FixedLen.{FixedLen}
 use Rattle.type_info.specs.declared.FixedLen.the-variants as F
 use Rattle.type_info.specs.declared.ByteLen.{ByteLen}
@@ -26,8 +24,6 @@ use Rattle.type_info.specs.declared.LongLen.{LongLen}
 use Rattle.type_info.specs.declared.LongLen.the-variants as L
 use Rattle.type_info.specs.declared.TypeId.{TypeId}
 use Rattle.type_info.specs.declared.TypeId.the-variants as T
-use Rattle.type_info.specs.declared.TypeRead.{TypeRead}
-use Rattle.type_info.specs.declared.TypeRead.the-variants as TR
 use Rattle.type_info.specs.declared.Collation.{Collation}
 use Rattle.type_info.specs.declared.Collation.the-variants as C
 use Rattle.type_info.specs.declared.Name.{Name}
@@ -36,7 +32,7 @@ use Rattle.type_info.specs.declared.Schema.the-variants as S
 use Rattle.type_info.specs.declared.Column.{Column}
 use Rattle.type_info.specs.declared.ColumnRead.{ColumnRead}
 use Rattle.type_info.specs.declared.ColumnRead.the-variants as CR
-use Rattle.type_info.specs.Told.{fixedTold, byteLenTold, uShortLenTold, longLenTold, typeTold, typeReadTold, collationTold, nameTold, schemaTold, columnTold, columnReadTold, nameBytes, NameIn, SchemaFrom, NamesFrom}
+use Rattle.type_info.specs.Told.{fixedTold, byteLenTold, uShortLenTold, longLenTold, typeTold, collationTold, nameTold, schemaTold, columnTold, columnReadTold, nameBytes, NameIn, SchemaFrom, NamesFrom}
 use Rattle.type_info.proofs.ReadLaws.{name-inside}
 use Rattle.type_info.proofs.RuleLaws.{length-name}
 
@@ -142,22 +138,6 @@ type-undoes T.Xml = refl
 type-undoes T.Udt = refl
 type-undoes T.SsVariant = refl
 
-abbrev typeReadBack : Answer D.TypeId → TypeRead
-typeReadBack (gives t) = TR.Type (typeBack t)
-typeReadBack (refuses e) = TR.Unknown
-
-type-read-undoes : Undoes typeReadTold typeReadBack
-type-read-undoes (TR.Type t) = ap TR.Type (type-undoes t)
-type-read-undoes TR.Unknown = refl
-
--- `type_info::types::type_of`
-pub type-of-decided : (b : ℕ) (x y : TypeRead) → typeReadTold x ≡ typeOf b → typeReadTold y ≡ typeOf b → x ≡ y
-type-of-decided b x y p q = decided typeReadTold typeReadBack type-read-undoes x y (typeOf b) p q
-
--- `type_info::types::type_byte`
-pub type-byte-decided : (t : TypeId) (x y : ℕ) → x ≡ typeByte (typeTold t) → y ≡ typeByte (typeTold t) → x ≡ y
-type-byte-decided t x y p q = one-room x y (typeByte (typeTold t)) p q
-
 -- ---- reading
 
 abbrev collationBack : Option D.Collation → Collation
@@ -242,25 +222,3 @@ same-read s place (CR.Refused f) (CR.Refused g) h i e =
 -- `type_info::read::read_column`
 pub read-column-decided : (s : List ℕ) (at : ℕ) (x y : ColumnRead) → Reads s at x → Reads s at y → x ≡ y
 read-column-decided s at x y p q = same-read s (at + 3) x y (p .names) (q .names) (p .told ∙ sym (q .told))
-
--- ---- writing
-
--- `type_info::rule::keeps_rule`
-pub keeps-rule-decided : (b : List ℕ) (c : Column) (x y : Bool) → x ≡ keepsRule (columnTold b c) → y ≡ keepsRule (columnTold b c) → x ≡ y
-keeps-rule-decided b c x y p q = one-room x y (keepsRule (columnTold b c)) p q
-
--- `type_info::write::column_size`
-pub column-size-decided : (c : Column) (names : List ℕ) (x y : Wrote) → wroteTold x ≡ wrote (writeColumn (columnTold names c)) → wroteTold y ≡ wrote (writeColumn (columnTold names c)) → x ≡ y
-column-size-decided c names x y p q = wrote-decided x y (wrote (writeColumn (columnTold names c))) p q
-
--- what the contract of `type_info::write::write_column` says of an answer and of the room afterwards
-pub record Writes (c : Column) (names out : List ℕ) (r : Wrote) (after : List ℕ) : Type 0 where
-  pub answer : wroteTold r ≡ wrote (fitted (writeColumn (columnTold names c)) (length out))
-  pub room : after ≡ roomAfter (fitted (writeColumn (columnTold names c)) (length out)) out
-
--- `type_info::write::write_column`
-pub write-column-decided : (c : Column) (names out : List ℕ) (x y : Wrote) (a b : List ℕ) → Writes c names out x a → Writes c names out y b → (x ≡ y) × (a ≡ b)
-write-column-decided c names out x y a b p q = (
-  wrote-decided x y (wrote (fitted (writeColumn (columnTold names c)) (length out))) (p .answer) (q .answer),
-  one-room a b (roomAfter (fitted (writeColumn (columnTold names c)) (length out)) out) (p .room) (q .room),
-)

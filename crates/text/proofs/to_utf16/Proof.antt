@@ -5,7 +5,8 @@ use borrow.Author.Needs.{needs}
 use Rattle.format.specs.Answer.{gives, wrote}
 use Rattle.format.specs.Text.{textIn}
 use Rattle.wire.specs.Told.{wroteTold}
-use Rattle.text.proofs.Sized.{sized-refused, sized-short, sized-fits, sized-written}
+use Rattle.wire.proofs.Writing.{refused-before}
+use Rattle.text.proofs.Sized.{sized-short, sized-fits, sized-written}
 use Rattle.text.proofs.to_utf16.Statement.{statement}
 use Rattle.text.proofs.to_utf16.Tie as tie
 
@@ -47,7 +48,7 @@ returns-2 c =
 returns-3 : tie.Need-returns-3
 returns-3 c =
     let a = c .before .before .before .before .before .before .args in
-    sized-refused (now (a .out)) (textIn (now (a .s))) _ (sym (ap wroteTold (c .before .size2 .given .1)) ∙ c .before .before .before .utf16-size .ensures)
+    refused-before (textIn (now (a .s))) (now (a .out)) _ (sym (ap wroteTold (c .before .size2 .given .1)) ∙ c .before .before .before .utf16-size .ensures)
 
 pub to-utf16-spec : {M : Type 1} → statement M
 to-utf16-spec =

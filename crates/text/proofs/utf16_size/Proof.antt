@@ -19,10 +19,10 @@ abbrev μ-loop : tie.MeasureT-loop
 
 -- the character that was read, and how long it is in UTF-16LE
 read : (c : tie.After-t Inv-loop μ-loop) → let l = c .before .before .before .before in Stands char8 (now (l .before .before .args .s)) (l .loop .at) (c .t .given .0 .0) (c .t .given .0 .1 .0)
-read c = let l = c .before .before .before .before in stands8 (now (l .before .before .args .s)) (l .loop .at) (c .t .given .0 .0) (c .t .given .0 .1 .0) (c .before .before .before .loop-test .taken) (sym (ap charTold (c .t .given .1)) ∙ c .before .before .char8-at .ensures)
+read c = stands8 (c .before .before .before .loop-test .taken) (sym (ap charTold (c .t .given .1)) ∙ c .before .before .char8-at .ensures)
 
 long : (c : tie.After-size16 Inv-loop μ-loop) → c .size16 .result ≤ 2 * c .before .before .t .given .0 .1 .0
-long c = let w = c .before .before in let l = w .before .before .before .before in rw (c .size16 .ensures) (long8 (now (l .before .before .args .s)) (l .loop .at) (w .t .given .0 .0) (w .t .given .0 .1 .0) (read w))
+long c = rw (c .size16 .ensures) (long8 (read (c .before .before)))
 
 loop-holds : tie.Need-loop-holds Inv-loop μ-loop
 loop-holds c = (size-start char8 utf16 (now (c .before .args .s)), search needs)
@@ -46,10 +46,7 @@ loop-less : tie.Need-loop-less Inv-loop μ-loop
 loop-less c = omega (arith, read (c .before .before))
 
 loop-again : tie.Need-loop-again Inv-loop μ-loop
-loop-again c =
-    let w = c .before .before in
-    let l = w .before .before .before .before in
-    (size-more (l .loop .inv .0) (w .t .given .0 .0) (w .t .given .0 .1 .0) (c .size16 .result) (c .size16 .ensures) (read w), omega (arith, long c))
+loop-again c = (size-more (c .before .before .before .before .before .before .loop .inv .0) (c .size16 .ensures) (read (c .before .before)), omega (arith, long c))
 
 enum-known-t-2 : tie.Need-enum-known-t-2 Inv-loop μ-loop
 enum-known-t-2 c = search needs
@@ -59,7 +56,7 @@ unfolding textIn
 returns c =
     let i = c .before .before .before .before in
     let l = i .before in
-    size-stop (l .loop .inv .0) _ (i .loop-test .taken) (sym (ap charTold (c .before .t2 .given .1)) ∙ c .before .before .before .char8-at .ensures)
+    size-stop (l .loop .inv .0) (i .loop-test .taken) (sym (ap charTold (c .before .t2 .given .1)) ∙ c .before .before .before .char8-at .ensures)
 
 returns-2 : tie.Need-returns-2 Inv-loop μ-loop
 unfolding textIn

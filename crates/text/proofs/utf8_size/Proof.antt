@@ -25,10 +25,10 @@ bytes c i = omega (arith, c .before .before .shared-slice-known .given i)
 
 -- the character that was read, and how long it is in UTF-8
 read : (c : tie.After-t Inv-loop μ-loop) → let l = c .before .before .before .before in Stands char16 (now (l .before .before .before .args .u)) (l .loop .at) (c .t .given .0 .0) (c .t .given .0 .1 .0)
-read c = let l = c .before .before .before .before in stands16 (now (l .before .before .before .args .u)) (l .loop .at) (c .t .given .0 .0) (c .t .given .0 .1 .0) (bytes l) (c .before .before .before .loop-test .taken) (sym (ap charTold (c .t .given .1)) ∙ c .before .before .char16-at .ensures)
+read c = stands16 (bytes (c .before .before .before .before)) (c .before .before .before .loop-test .taken) (sym (ap charTold (c .t .given .1)) ∙ c .before .before .char16-at .ensures)
 
 long : (c : tie.After-size8 Inv-loop μ-loop) → 2 * c .size8 .result ≤ 3 * c .before .before .t .given .0 .1 .0
-long c = let w = c .before .before in let l = w .before .before .before .before in rw (c .size8 .ensures) (long16 (now (l .before .before .before .args .u)) (l .loop .at) (w .t .given .0 .0) (w .t .given .0 .1 .0) (bytes l) (read w))
+long c = rw (c .size8 .ensures) (long16 (bytes (c .before .before .before .before .before .before)) (read (c .before .before)))
 
 returns : tie.Need-returns Inv-loop μ-loop
 unfolding wrote
@@ -56,10 +56,7 @@ loop-less : tie.Need-loop-less Inv-loop μ-loop
 loop-less c = omega (arith, read (c .before .before))
 
 loop-again : tie.Need-loop-again Inv-loop μ-loop
-loop-again c =
-    let w = c .before .before in
-    let l = w .before .before .before .before in
-    (size-more (l .loop .inv .0) (w .t .given .0 .0) (w .t .given .0 .1 .0) (c .size8 .result) (c .size8 .ensures) (read w), omega (arith, long c))
+loop-again c = (size-more (c .before .before .before .before .before .before .loop .inv .0) (c .size8 .ensures) (read (c .before .before)), omega (arith, long c))
 
 enum-known-t-2 : tie.Need-enum-known-t-2 Inv-loop μ-loop
 enum-known-t-2 c = search needs
@@ -68,7 +65,8 @@ returns-2 : tie.Need-returns-2 Inv-loop μ-loop
 returns-2 c =
     let i = c .before .before .before .before in
     let l = i .before in
-    size-stop (l .loop .inv .0) _ (i .loop-test .taken) (sym (ap charTold (c .before .t2 .given .1)) ∙ c .before .before .before .char16-at .ensures) ∙ sym (ap wrote (out-even (now (l .before .before .before .args .u)) (l .before .if1 .left)))
+    size-stop (l .loop .inv .0) (i .loop-test .taken) (sym (ap charTold (c .before .t2 .given .1)) ∙ c .before .before .before .char16-at .ensures)
+    ∙ sym (ap wrote (out-even (now (l .before .before .before .args .u)) (l .before .if1 .left)))
 
 returns-3 : tie.Need-returns-3 Inv-loop μ-loop
 returns-3 c = let l = c .before in size-end (l .loop .inv .0) (c .loop-test .left) ∙ sym (ap wrote (out-even (now (l .before .before .before .args .u)) (l .before .if1 .left)))

@@ -1,7 +1,7 @@
 -- `text::within` meets its contract: the two comparisons are the range's. Assumes nothing.
 use mathlib.Core.Path.{sym}
 use borrow.Author.Tests.{le-leb}
-use Rattle.format.proofs.Scalars.{between-below}
+use Rattle.format.proofs.Characters.{between-below}
 use Rattle.text.proofs.within.Statement.{statement}
 use Rattle.text.proofs.within.Tie as tie
 

@@ -5,7 +5,7 @@ use native.Mathlib.Omega.{arith}
 use lib.ListN.{drop, length-drop}
 use denote.Ref.{now}
 use Rattle.format.specs.Text.{between}
-use Rattle.format.proofs.Scalars.{in-between}
+use Rattle.format.proofs.Characters.{in-between}
 use Rattle.text.proofs.Units.{pair-short, pair-is, pair-not}
 use borrow.Author.Needs.{needs}
 use Rattle.text.proofs.inner.pair_at.Statement.{statement}

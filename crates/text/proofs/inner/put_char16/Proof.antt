@@ -50,7 +50,8 @@ add-put-unit-3 c = search needs
 put-unit-requires-3 : tie.Need-put-unit-requires-3
 put-unit-requires-3 c κs =
     let e = c .before .before .before .before .before in
-    omega (arith, room-two e, ap length (c .before .before .before .put-unit2 .ensures), length-sets (now (e .before .before .args .out)) (e .before .before .args .o) (lowBytes 2 (0xD800 + (e .before .before .args .c - 0x10000) / 1024)))
+    let a = e .before .before .args in
+    omega (arith, room-two e, ap length (c .before .before .before .put-unit2 .ensures), length-sets (now (a .out)) (a .o) (lowBytes 2 (0xD800 + (a .c - 0x10000) / 1024)))
 
 same-length-2 : tie.Need-same-length-2
 same-length-2 c = search needs

@@ -69,8 +69,11 @@ returns-2 : tie.Need-returns-2
 returns-2 c =
     let z = c .before .before in
     let a = z .args in
-    let u = utf8-two (a .c) (c .before .if1 .left) (c .if2 .taken) in
-    (sym (ap length u), sets-two (a .out .now) (a .o) (0xC0 + a .c / 64) (0x80 + a .c % 64) ∙ stored (a .out .now) ((0xC0 + a .c / 64) ∷ (0x80 + a .c % 64) ∷ []) (utf8 (a .c)) (a .o) u (z .pre .1))
+    let u = utf8-two (a .c) (c .before .if1 .left) (c .if2 .taken) in (
+      sym (ap length u),
+      sets-two (a .out .now) (a .o) (0xC0 + a .c / 64) (0x80 + a .c % 64)
+          ∙ stored (a .out .now) ((0xC0 + a .c / 64) ∷ (0x80 + a .c % 64) ∷ []) (utf8 (a .c)) (a .o) u (z .pre .1),
+    )
 
 add-out-4 : tie.Need-add-out-4
 add-out-4 c = search needs
@@ -112,8 +115,11 @@ returns-3 : tie.Need-returns-3
 returns-3 c =
     let z = c .before .before .before in
     let a = z .args in
-    let u = utf8-three (a .c) (c .before .if2 .left) (c .if3 .taken) in
-    (sym (ap length u), sets-three (a .out .now) (a .o) (0xE0 + a .c / 4096) (0x80 + a .c / 64 % 64) (0x80 + a .c % 64) ∙ stored (a .out .now) ((0xE0 + a .c / 4096) ∷ (0x80 + a .c / 64 % 64) ∷ (0x80 + a .c % 64) ∷ []) (utf8 (a .c)) (a .o) u (z .pre .1))
+    let u = utf8-three (a .c) (c .before .if2 .left) (c .if3 .taken) in (
+      sym (ap length u),
+      sets-three (a .out .now) (a .o) (0xE0 + a .c / 4096) (0x80 + a .c / 64 % 64) (0x80 + a .c % 64)
+          ∙ stored (a .out .now) ((0xE0 + a .c / 4096) ∷ (0x80 + a .c / 64 % 64) ∷ (0x80 + a .c % 64) ∷ []) (utf8 (a .c)) (a .o) u (z .pre .1),
+    )
 
 add-out-9 : tie.Need-add-out-9
 add-out-9 c = search needs
@@ -167,8 +173,11 @@ returns-4 : tie.Need-returns-4
 returns-4 c =
     let z = c .before .before .before in
     let a = z .args in
-    let u = utf8-four (a .c) (c .if3 .left) in
-    (sym (ap length u), sets-four (a .out .now) (a .o) (0xF0 + a .c / 262144) (0x80 + a .c / 4096 % 64) (0x80 + a .c / 64 % 64) (0x80 + a .c % 64) ∙ stored (a .out .now) ((0xF0 + a .c / 262144) ∷ (0x80 + a .c / 4096 % 64) ∷ (0x80 + a .c / 64 % 64) ∷ (0x80 + a .c % 64) ∷ []) (utf8 (a .c)) (a .o) u (z .pre .1))
+    let u = utf8-four (a .c) (c .if3 .left) in (
+      sym (ap length u),
+      sets-four (a .out .now) (a .o) (0xF0 + a .c / 262144) (0x80 + a .c / 4096 % 64) (0x80 + a .c / 64 % 64) (0x80 + a .c % 64)
+          ∙ stored (a .out .now) ((0xF0 + a .c / 262144) ∷ (0x80 + a .c / 4096 % 64) ∷ (0x80 + a .c / 64 % 64) ∷ (0x80 + a .c % 64) ∷ []) (utf8 (a .c)) (a .o) u (z .pre .1),
+    )
 
 pub put-char8-spec : {M : Type 1} → statement M
 put-char8-spec =

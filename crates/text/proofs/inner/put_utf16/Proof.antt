@@ -28,7 +28,7 @@ fits c = let a = c .before .before .args in fits-given (textIn (now (a .s))) (le
 
 -- the character that was read
 read : (c : tie.After-t Inv-loop μ-loop) → let l = c .before .before .before .before in Stands char8 (now (l .before .before .before .args .s)) (l .loop .at) (c .t .given .0 .0) (c .t .given .0 .1 .0)
-read c = let l = c .before .before .before .before in stands8 (now (l .before .before .before .args .s)) (l .loop .at) (c .t .given .0 .0) (c .t .given .0 .1 .0) (c .before .before .before .loop-test .taken) (sym (ap charTold (c .t .given .1)) ∙ c .before .before .char8-at .ensures)
+read c = stands8 (c .before .before .before .loop-test .taken) (sym (ap charTold (c .t .given .1)) ∙ c .before .before .char8-at .ensures)
 
 loop-holds : tie.Need-loop-holds Inv-loop μ-loop
 loop-holds c =
@@ -45,17 +45,19 @@ put-char16-requires : tie.Need-put-char16-requires Inv-loop μ-loop
 put-char16-requires c κs =
     let w = c .before .before in
     let l = w .before .before .before .before in
-    write-room (l .loop .inv) (w .t .given .0 .0) (w .t .given .0 .1 .0) (read w) (fits (l .before) .1)
+    write-room (l .loop .inv) (read w) (fits (l .before) .1)
 
 loop-again : tie.Need-loop-again Inv-loop μ-loop
 loop-again c =
     let w = c .before .before .before .before .before in
     let l = w .before .before .before .before in
     let p = c .before .before .put-char16 in
-    write-more (l .loop .inv) (w .t .given .0 .0) (w .t .given .0 .1 .0) (read w) (fits (l .before) .1) _ (p .result) (p .ensures .0) (p .ensures .1)
+    write-more (l .loop .inv) (read w) (fits (l .before) .1) (p .ensures .0) (p .ensures .1)
 
 add-o : tie.Need-add-o Inv-loop μ-loop
-add-o c = omega (arith, loop-again c .within, fits (c .before .before .before .before .before .before .before .before .before .before) .1, c .before .before .before .before .before .before .before .before .before .before .before .before .good)
+add-o c =
+    let l = c .before .before .before .before .before .before .before .before .before in
+    omega (arith, loop-again c .within, fits (l .before) .1, l .before .before .before .good)
 
 add-at : tie.Need-add-at Inv-loop μ-loop
 add-at c = omega (arith, read (c .before .before .before .before .before), c .before .before .before .before .before .before .before .before .before .before .before .before .good)
@@ -72,7 +74,7 @@ same-length c = search needs
 returns : tie.Need-returns Inv-loop μ-loop
 returns c =
     let i = c .before .before .before .before in
-    write-stop (i .before .loop .inv) _ (i .loop-test .taken) (sym (ap charTold (c .before .t2 .given .1)) ∙ c .before .before .before .char8-at .ensures)
+    write-stop (i .before .loop .inv) (i .loop-test .taken) (sym (ap charTold (c .before .t2 .given .1)) ∙ c .before .before .before .char8-at .ensures)
 
 same-length-2 : tie.Need-same-length-2 Inv-loop μ-loop
 same-length-2 c = search needs

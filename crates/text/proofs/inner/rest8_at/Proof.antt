@@ -67,7 +67,8 @@ returns-3 : tie.Need-returns-3
 returns-3 c =
     let e = c .before .before .before .before .before .before in
     let a = e .before .before .before .args in
-    third-not (now (a .s)) (a .at) (a .a) _ (rowTold (a .row)) (c .before .before .before .before .six-at .ensures .0) (second-stands e) (omega (arith, c .before .before .if2 .left)) (sym (c .before .stands2 .ensures) ∙ not-true _ (c .if3 .taken))
+    third-not (now (a .s)) (a .at) (a .a) _ (rowTold (a .row)) (c .before .before .before .before .six-at .ensures .0) (second-stands e)
+    (omega (arith, c .before .before .if2 .left)) (sym (c .before .stands2 .ensures) ∙ not-true _ (c .if3 .taken))
 
 mul-three : tie.Need-mul-three
 mul-three c = search needs
@@ -89,7 +90,8 @@ returns-4 : tie.Need-returns-4
 returns-4 c =
     let e = c .before .before .before in
     let a = e .before .before .before .before .before .before .before .before .before .args in
-    rest-three (now (a .s)) (a .at) (a .a) _ (rowTold (a .row)) (e .before .before .before .before .six-at .ensures .0) (second-stands (e .before .before .before .before .before .before)) _ (c .before .before .six-at2 .ensures .0) (third-stands e) (c .if4 .taken)
+    rest-three (now (a .s)) (a .at) (a .a) _ (rowTold (a .row)) (e .before .before .before .before .six-at .ensures .0)
+    (second-stands (e .before .before .before .before .before .before)) _ (c .before .before .six-at2 .ensures .0) (third-stands e) (c .if4 .taken)
 
 add-stands-2 : tie.Need-add-stands-2
 add-stands-2 c =
@@ -105,7 +107,9 @@ returns-5 c =
     let f = c .before .before in
     let e = f .before .before .before in
     let a = e .before .before .before .before .before .before .before .before .before .args in
-    fourth-not (now (a .s)) (a .at) (a .a) _ (rowTold (a .row)) (e .before .before .before .before .six-at .ensures .0) (second-stands (e .before .before .before .before .before .before)) _ (f .before .before .six-at2 .ensures .0) (third-stands e) (last-two f) (sym (c .before .stands3 .ensures) ∙ not-true _ (c .if5 .taken))
+    fourth-not (now (a .s)) (a .at) (a .a) _ (rowTold (a .row)) (e .before .before .before .before .six-at .ensures .0)
+    (second-stands (e .before .before .before .before .before .before)) _ (f .before .before .six-at2 .ensures .0) (third-stands e) (last-two f)
+    (sym (c .before .stands3 .ensures) ∙ not-true _ (c .if5 .taken))
 
 mul-t11 : tie.Need-mul-t11
 mul-t11 c = search needs
@@ -128,7 +132,9 @@ returns-6 c =
     let f = c .before .before .before in
     let e = f .before .before .before in
     let a = e .before .before .before .before .before .before .before .before .before .args in
-    rest-four (now (a .s)) (a .at) (a .a) _ (rowTold (a .row)) (e .before .before .before .before .six-at .ensures .0) (second-stands (e .before .before .before .before .before .before)) _ (f .before .before .six-at2 .ensures .0) (third-stands e) _ (c .six-at3 .ensures .0) (last-two f) (fourth-stands (c .before))
+    rest-four (now (a .s)) (a .at) (a .a) _ (rowTold (a .row)) (e .before .before .before .before .six-at .ensures .0)
+    (second-stands (e .before .before .before .before .before .before)) _ (f .before .before .six-at2 .ensures .0) (third-stands e) _ (c .six-at3 .ensures .0) (last-two f)
+    (fourth-stands (c .before))
 
 pub rest8-at-spec : {M : Type 1} → statement M
 rest8-at-spec =

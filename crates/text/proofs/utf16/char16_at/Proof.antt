@@ -5,7 +5,7 @@ use native.Mathlib.Omega.{arith}
 use lib.ListN.{drop, length-drop}
 use denote.Ref.{now}
 use Rattle.format.specs.Text.{between}
-use Rattle.format.proofs.Scalars.{in-between}
+use Rattle.format.proofs.Characters.{in-between}
 use Rattle.text.proofs.Units.{first-short, first-high, first-low, first-one}
 use borrow.Author.Needs.{needs}
 use Rattle.text.proofs.utf16.char16_at.Statement.{statement}
@@ -52,12 +52,14 @@ within-requires-2 c κs = search needs
 returns-4 : tie.Need-returns-4
 returns-4 c =
     let a = c .before .before .before .before .before .before .before .before .args in
-    first-low (now (a .s)) (a .at) _ (c .before .before .before .before .unit-at .ensures .0) (omega (arith, length-drop (a .at) (now (a .s)))) (sym (c .before .before .before .within .ensures) ∙ c .before .before .if3 .left) (sym (c .before .within2 .ensures) ∙ c .if4 .taken)
+    first-low (now (a .s)) (a .at) _ (c .before .before .before .before .unit-at .ensures .0) (omega (arith, length-drop (a .at) (now (a .s))))
+    (sym (c .before .before .before .within .ensures) ∙ c .before .before .if3 .left) (sym (c .before .within2 .ensures) ∙ c .if4 .taken)
 
 returns-5 : tie.Need-returns-5
 returns-5 c =
     let a = c .before .before .before .before .before .before .before .before .args in
-    first-one (now (a .s)) (a .at) _ (c .before .before .before .before .unit-at .ensures .0) (omega (arith, length-drop (a .at) (now (a .s)))) (sym (c .before .before .before .within .ensures) ∙ c .before .before .if3 .left) (sym (c .before .within2 .ensures) ∙ c .if4 .left)
+    first-one (now (a .s)) (a .at) _ (c .before .before .before .before .unit-at .ensures .0) (omega (arith, length-drop (a .at) (now (a .s))))
+    (sym (c .before .before .before .within .ensures) ∙ c .before .before .if3 .left) (sym (c .before .within2 .ensures) ∙ c .if4 .left)
 
 pub char16-at-spec : {M : Type 1} → statement M
 char16-at-spec =

@@ -12,6 +12,7 @@ use lib.Dec.{ltb, leb}
 use borrow.Author.Tests.{le-leb, lt-leb, leb-true, ltb-true, ltb-false}
 use Rattle.lists.proofs.Split.{split}
 use Rattle.format.specs.Answer.{Answer, gives, refuses, Refusal, Read, took, stops, andThen}
+use Rattle.format.proofs.Answer.{no-truth, no-gives}
 use Rattle.format.specs.Text.{between, scalars, spelled}
 
 -- ---- a range
@@ -32,7 +33,7 @@ module _ (low high n : ℕ) where
 
   -- what lies in a range
   pub in-between : between low high n ≡ true → (low ≤ n) × (n ≤ high)
-  in-between h = split (leb low n) (λ p q. (leb-true low n p, leb-true n high q)) (λ p q. let z : _≡_ {A = ℕ} 0 1 = cc in absurd (omega arith)) h
+  in-between h = split (leb low n) (λ p q. (leb-true low n p, leb-true n high q)) (λ p q. no-truth q) h
 
 -- by cases on an order
 pub less : {P : Type 0} (a b : ℕ) → (a < b → P) → (b ≤ a → P) → P
@@ -41,10 +42,6 @@ less {P} a b f g = go (ltb a b) refl
     go : (t : Bool) → ltb a b ≡ t → P
     go true e = f (ltb-true a b e)
     go false e = g (ltb-false a b e)
-
--- a refusal gives nothing
-pub no-gives : {A P : Type 0} (e : Refusal) (v : A) → refuses e ≡ gives v → P
-no-gives e v h = let z : _≡_ {A = ℕ} 0 1 = cc in absurd (omega arith)
 
 -- ---- a text, by any reader of one character
 
