@@ -1,14 +1,9 @@
 // The carried types, by the form of their values.
 ghost use mathlib.Core.Path.{_≡_};
-ghost use Rattle.lists.specs.Pick.{pick};
-ghost use Rattle.format.specs.Value.{untypedLength, fixedFamily, byteLenFamily, uShortLenFamily, familyOf};
+ghost use Rattle.format.specs.Value.{fixedFamily, byteLenFamily, uShortLenFamily, familyOf};
 ghost use Rattle.type_info.specs.Told.{fixedTold, byteLenTold, uShortLenTold, typeTold};
 ghost use Rattle.column_data.specs.Told.{familyTold, contentKindTold};
-ghost use Rattle.column_data.specs.Form.{sameContent, shortUpTo, untypedHead};
-ghost use mathlib.Core.Bool.{Bool};
-ghost use lib.Dec.{leb, eqb};
-ghost use lib.ListN.{length};
-ghost use Rattle.format.specs.Plp.{plpMark};
+ghost use Rattle.column_data.specs.Form.{sameContent};
 use crate::kinds::Kind;
 use crate::kinds::Listed;
 use type_info::ByteLen;
@@ -43,55 +38,6 @@ pub fn same_content(a: ContentKind, b: ContentKind) -> bool
             ContentKind::String => true,
         },
     }
-}
-
-// Declared 65,535: PLP.
-pub fn is_plp(declared: u32) -> bool
-    ensures { λ r. ⌜ r ≡ eqb declared plpMark ⌝ }
-{
-    if declared == 65535 {
-        return true;
-    }
-    false
-}
-
-// Is content of so many bytes, as they were lent, written in the short form without a type?
-pub fn is_short(k: ContentKind, count: usize) -> bool
-    ensures { λ r. ⌜ r ≡ leb count (shortUpTo (contentKindTold k)) ⌝ }
-{
-    match k {
-        ContentKind::Binary => at_most(count, 8000),
-        ContentKind::String => at_most(count, 4000),
-    }
-}
-
-fn at_most(count: usize, limit: usize) -> bool
-    ensures { λ r. ⌜ r ≡ leb count limit ⌝ }
-{
-    if limit < count {
-        return false;
-    }
-    true
-}
-
-// How many bytes of descriptor stand in front of content without a type.
-pub fn untyped_head(k: ContentKind) -> u8
-    ensures { λ r. ⌜ ((short : Bool) → r ≡ length (untypedHead (contentKindTold k) short)) ⌝ }
-{
-    match k {
-        ContentKind::Binary => 3,
-        ContentKind::String => 8,
-    }
-}
-
-// The length that content without a type declares.
-pub fn untyped_length(short: bool) -> u64
-    ensures { λ r. ⌜ r ≡ pick short untypedLength plpMark ⌝ }
-{
-    if short {
-        return 8000;
-    }
-    65535
 }
 
 fn fixed_family(t: FixedLen) -> Family

@@ -13,7 +13,7 @@ ghost use Rattle.column_data.specs.Form.{givenOf, encoded, encodedPart, 
 use crate::Scalar;
 use crate::Span;
 use crate::Value;
-use crate::family;
+use crate::content;
 use crate::family::ContentKind;
 use crate::family::Family;
 use crate::kinds;
@@ -128,27 +128,12 @@ pub fn fill(f: Family, declared: u32, v: Value, buffer: &[u8], out: &mut [u8])
     requires { ⌜ gives (length (now out)) ≡ wrote (writeFamily declared (familyTold f) (valueTold (now buffer) v)) ⌝ }
     ensures { λ _. ⌜ gives (now (out .exit)) ≡ writeFamily declared (familyTold f) (valueTold (now (buffer .entry)) v) ⌝ }
 {
+    let plp = content::is_plp(declared);
     match v {
         Value::Null => fill_null(f, declared, out),
         Value::Scalar(s) => fill_scalar(f, declared, s, out),
-        Value::Binary(p) => {
-            fill_span(
-                ContentKind::Binary,
-                p,
-                buffer,
-                family::is_plp(declared),
-                out,
-            )
-        }
-        Value::String(p) => {
-            fill_span(
-                ContentKind::String,
-                p,
-                buffer,
-                family::is_plp(declared),
-                out,
-            )
-        }
+        Value::Binary(p) => fill_span(ContentKind::Binary, p, buffer, plp, out),
+        Value::String(p) => fill_span(ContentKind::String, p, buffer, plp, out),
     }
 }
 
@@ -170,7 +155,7 @@ fn put_head(k: ContentKind, short: bool, out: &mut [u8])
     requires { ⌜ length (untypedHead (contentKindTold k) short) ≤ length (now out) ⌝ }
     ensures { λ _. ⌜ now (out .exit) ≡ sets (now (out .entry)) 0 (untypedHead (contentKindTold k) short) ⌝ }
 {
-    let declared = family::untyped_length(short);
+    let declared = content::untyped_length(short);
     match k {
         ContentKind::Binary => {
             wire::inner::put_byte(out, 0, 0xA5);
@@ -189,9 +174,9 @@ fn fill_untyped_content(k: ContentKind, p: Span, buffer: &[u8], out: &mut [u8])
     requires { ⌜ gives (length (now out)) ≡ wrote (writeUntyped (givenOf (contentKindTold k) (spanTold (now buffer) p))) ⌝ }
     ensures { λ _. ⌜ gives (now (out .exit)) ≡ writeUntyped (givenOf (contentKindTold k) (spanTold (now (buffer .entry)) p)) ⌝ }
 {
-    let short = family::is_short(k, p.count);
+    let short = content::is_short(k, p.count);
     put_head(k, short, out);
-    let head = family::untyped_head(k) as usize;
+    let head = content::untyped_head(k) as usize;
     fill_span(k, p, buffer, !short, &mut out[head..]);
 }
 

@@ -1,4 +1,5 @@
 // One column value: what it may be, and its bytes under a type or without one.
+mod content;
 mod family;
 mod inner;
 mod kinds;
@@ -88,8 +89,8 @@ pub fn untyped_size(v: Value, buffer: &[u8]) -> Wrote
     match v {
         Value::Null => Wrote::Bytes(1),
         Value::Scalar(s) => Wrote::Bytes(3 + kinds::bytes_of(kinds::kind_of(s))),
-        Value::Binary(p) => size::untyped_content(ContentKind::Binary, p, buffer),
-        Value::String(p) => size::untyped_content(ContentKind::String, p, buffer),
+        Value::Binary(p) => content::untyped_content(ContentKind::Binary, p, buffer),
+        Value::String(p) => content::untyped_content(ContentKind::String, p, buffer),
     }
 }
 
@@ -100,12 +101,12 @@ pub fn write_untyped(v: Value, buffer: &[u8], out: &mut [u8]) -> Wrote
 {
     let needed = untyped_size(v, buffer);
     match needed {
-        Wrote::Bytes(n) => {
-            if out.len() < n {
+        Wrote::Bytes(m) => {
+            if out.len() < m {
                 return Wrote::Refused(Refusal::Room);
             }
-            inner::fill_untyped(v, buffer, &mut out[..n]);
-            Wrote::Bytes(n)
+            inner::fill_untyped(v, buffer, &mut out[..m]);
+            Wrote::Bytes(m)
         }
         Wrote::Refused(e) => Wrote::Refused(e),
     }

@@ -8,45 +8,42 @@ use borrow.Author.Needs.{needs}
 use Rattle.column_data.proofs.inner.fill.Statement.{statement}
 use Rattle.column_data.proofs.inner.fill.Tie as tie
 
+is-plp-requires : tie.Need-is-plp-requires
+is-plp-requires c κs = search needs
+
 enum-told : tie.Need-enum-told
 enum-told c = search needs
 
 fill-null-requires : tie.Need-fill-null-requires
-fill-null-requires c κs = (rw (c .before .enum-told .given .1) at (c .before .before .before .before .before .pre))
+fill-null-requires c κs = rw (c .before .enum-told .given .1) at (c .before .before .before .before .before .before .pre)
 
 enum-known-v : tie.Need-enum-known-v
 enum-known-v c = search needs
 
 fill-scalar-requires : tie.Need-fill-scalar-requires
-fill-scalar-requires c κs = (rw (c .before .before .v .given .1) at (c .before .before .before .before .before .before .pre))
+fill-scalar-requires c κs = rw (c .before .before .v .given .1) at (c .before .before .before .before .before .before .before .pre)
 
 enum-known-v-2 : tie.Need-enum-known-v-2
 enum-known-v-2 c = search needs
 
-is-plp-requires : tie.Need-is-plp-requires
-is-plp-requires c κs = search needs
-
 fill-span-requires : tie.Need-fill-span-requires
 fill-span-requires c κs =
     let s = c .before .before .before .before .before .before .before in
-    let t = c .before .before .before .v2 .given in
+    let t = c .before .before .v2 .given in
     let p = rw (t .1) at (s .pre) in
     let e = content-written (s .args .declared) (spanTold (s .args .buffer .now) (t .0 .0)) _ (familyTold (s .args .f)) ContentKind.binary p in
-    rw (c .before .is-plp .ensures) (p ∙ ap wrote e)
+    rw (c .before .before .before .before .is-plp .ensures) (p ∙ ap wrote e)
 
 enum-known-v-3 : tie.Need-enum-known-v-3
 enum-known-v-3 c = search needs
 
-is-plp-requires-2 : tie.Need-is-plp-requires-2
-is-plp-requires-2 c κs = search needs
-
 fill-span-requires-2 : tie.Need-fill-span-requires-2
 fill-span-requires-2 c κs =
     let s = c .before .before .before .before .before .before .before in
-    let t = c .before .before .before .v3 .given in
+    let t = c .before .before .v3 .given in
     let p = rw (t .1) at (s .pre) in
     let e = content-written (s .args .declared) (spanTold (s .args .buffer .now) (t .0 .0)) _ (familyTold (s .args .f)) ContentKind.string p in
-    rw (c .before .is-plp2 .ensures) (p ∙ ap wrote e)
+    rw (c .before .before .before .before .is-plp .ensures) (p ∙ ap wrote e)
 
 same-length : tie.Need-same-length
 same-length c = search needs
@@ -66,10 +63,10 @@ same-length-3 c = search needs
 returns-3 : tie.Need-returns-3
 returns-3 c =
     let s = c .before .before .before .before .before .before .before .before .before .before in
-    let t = c .before .before .before .before .before .before .v2 .given in
+    let t = c .before .before .before .before .before .v2 .given in
     let p = rw (t .1) at (s .pre) in
     let e = content-written (s .args .declared) (spanTold (s .args .buffer .now) (t .0 .0)) _ (familyTold (s .args .f)) ContentKind.binary p in
-    rw (t .1) (rw (c .before .before .before .before .is-plp .ensures) at (c .before .before .fill-span .ensures) ∙ sym e)
+    rw (t .1) (rw (c .before .before .before .before .before .before .before .is-plp .ensures) at (c .before .before .fill-span .ensures) ∙ sym e)
 
 same-length-4 : tie.Need-same-length-4
 same-length-4 c = search needs
@@ -77,24 +74,23 @@ same-length-4 c = search needs
 returns-4 : tie.Need-returns-4
 returns-4 c =
     let s = c .before .before .before .before .before .before .before .before .before .before in
-    let t = c .before .before .before .before .before .before .v3 .given in
+    let t = c .before .before .before .before .before .v3 .given in
     let p = rw (t .1) at (s .pre) in
     let e = content-written (s .args .declared) (spanTold (s .args .buffer .now) (t .0 .0)) _ (familyTold (s .args .f)) ContentKind.string p in
-    rw (t .1) (rw (c .before .before .before .before .is-plp2 .ensures) at (c .before .before .fill-span2 .ensures) ∙ sym e)
+    rw (t .1) (rw (c .before .before .before .before .before .before .before .is-plp .ensures) at (c .before .before .fill-span2 .ensures) ∙ sym e)
 
 pub fill-spec : {M : Type 1} → statement M
 fill-spec =
     tie.close
     (tie.spec
+    is-plp-requires
     enum-told
     fill-null-requires
     enum-known-v
     fill-scalar-requires
     enum-known-v-2
-    is-plp-requires
     fill-span-requires
     enum-known-v-3
-    is-plp-requires-2
     fill-span-requires-2
     same-length
     returns

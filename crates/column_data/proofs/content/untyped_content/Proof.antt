@@ -1,11 +1,11 @@
--- `column_data::size::untyped_content` meets its contract: the same path with the descriptor in front. Assumes nothing.
+-- `column_data::content::untyped_content` meets its contract: the same path with the descriptor in front. Assumes nothing.
 use mathlib.Core.Path.{sym}
 use Rattle.column_data.specs.Told.{contentKindTold}
 use Rattle.column_data.specs.Form.{untypedHead}
 use Rattle.column_data.proofs.ContentLaws.{untyped-size}
 use borrow.Author.Needs.{needs}
-use Rattle.column_data.proofs.size.untyped_content.Statement.{statement}
-use Rattle.column_data.proofs.size.untyped_content.Tie as tie
+use Rattle.column_data.proofs.content.untyped_content.Statement.{statement}
+use Rattle.column_data.proofs.content.untyped_content.Tie as tie
 
 is-short-requires : tie.Need-is-short-requires
 is-short-requires c κs = search needs

@@ -1,8 +1,8 @@
--- `column_data::family::at_most` meets its contract: the test is the definition's. Assumes nothing.
+-- `column_data::content::at_most` meets its contract: the test is the definition's. Assumes nothing.
 use borrow.Author.Tests.{lt-leb, le-leb}
 use mathlib.Core.Path.{sym}
-use Rattle.column_data.proofs.family.at_most.Statement.{statement}
-use Rattle.column_data.proofs.family.at_most.Tie as tie
+use Rattle.column_data.proofs.content.at_most.Statement.{statement}
+use Rattle.column_data.proofs.content.at_most.Tie as tie
 
 returns : tie.Need-returns
 returns c = sym (lt-leb _ _ (c .if1 .taken))

@@ -1,8 +1,8 @@
--- `column_data::size::content_bound` meets its contract: 65,535 is the mark and its own bound. Assumes nothing.
+-- `column_data::content::content_bound` meets its contract: 65,535 is the mark and its own bound. Assumes nothing.
 use borrow.Author.Tests.{eq-eqb, ne-eqb}
 use Rattle.format.specs.Plp.{plpBound}
-use Rattle.column_data.proofs.size.content_bound.Statement.{statement}
-use Rattle.column_data.proofs.size.content_bound.Tie as tie
+use Rattle.column_data.proofs.content.content_bound.Statement.{statement}
+use Rattle.column_data.proofs.content.content_bound.Tie as tie
 
 returns : tie.Need-returns
 unfolding plpBound

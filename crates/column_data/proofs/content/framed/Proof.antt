@@ -1,10 +1,10 @@
--- `column_data::size::framed` meets its contract: what the content comes to says which case of the definition holds. Assumes nothing.
+-- `column_data::content::framed` meets its contract: what the content comes to says which case of the definition holds. Assumes nothing.
 use mathlib.Core.Path.{sym, ap, _∙_}
 use Rattle.wire.specs.Told.{wroteTold}
 use Rattle.column_data.proofs.ContentLaws.{framed-refused, framed-long, framed-size}
 use borrow.Author.Needs.{needs}
-use Rattle.column_data.proofs.size.framed.Statement.{statement}
-use Rattle.column_data.proofs.size.framed.Tie as tie
+use Rattle.column_data.proofs.content.framed.Statement.{statement}
+use Rattle.column_data.proofs.content.framed.Tie as tie
 
 encoded-requires : tie.Need-encoded-requires
 encoded-requires c κs = search needs

@@ -1,8 +1,8 @@
--- `column_data::family::untyped_head` meets its contract: type byte and length, and a string's collation. Assumes nothing.
+-- `column_data::content::untyped_head` meets its contract: type byte and length, and a string's collation. Assumes nothing.
 use mathlib.Core.Path.{refl}
 use borrow.Author.Needs.{needs}
-use Rattle.column_data.proofs.family.untyped_head.Statement.{statement}
-use Rattle.column_data.proofs.family.untyped_head.Tie as tie
+use Rattle.column_data.proofs.content.untyped_head.Statement.{statement}
+use Rattle.column_data.proofs.content.untyped_head.Tie as tie
 
 enum-told : tie.Need-enum-told
 enum-told c = search needs

@@ -1,4 +1,4 @@
--- `column_data::size::framed_span` meets its contract: the part that the span names, or refusal 1. Assumes nothing.
+-- `column_data::content::framed_span` meets its contract: the part that the span names, or refusal 1. Assumes nothing.
 use lib.ListN.{length}
 use Prim.Native.Nat.{_+_, _-_, _≤_}
 use mathlib.Core.Path.{_≡_, sym, _∙_}
@@ -7,8 +7,8 @@ use borrow.Author.Tests.{leb-true, leb-false}
 use Rattle.format.specs.Answer.{wrote}
 use Rattle.column_data.proofs.ContentLaws.{span-inside, span-outside}
 use borrow.Author.Needs.{needs}
-use Rattle.column_data.proofs.size.framed_span.Statement.{statement}
-use Rattle.column_data.proofs.size.framed_span.Tie as tie
+use Rattle.column_data.proofs.content.framed_span.Statement.{statement}
+use Rattle.column_data.proofs.content.framed_span.Tie as tie
 
 inside-requires : tie.Need-inside-requires
 inside-requires c κs = search needs

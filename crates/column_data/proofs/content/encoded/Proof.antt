@@ -1,8 +1,8 @@
--- `column_data::size::encoded` meets its contract: binary as it is, a string as its size pass says. Assumes nothing.
+-- `column_data::content::encoded` meets its contract: binary as it is, a string as its size pass says. Assumes nothing.
 use Rattle.format.specs.Answer.{wrote}
 use borrow.Author.Needs.{needs}
-use Rattle.column_data.proofs.size.encoded.Statement.{statement}
-use Rattle.column_data.proofs.size.encoded.Tie as tie
+use Rattle.column_data.proofs.content.encoded.Statement.{statement}
+use Rattle.column_data.proofs.content.encoded.Tie as tie
 
 enum-told : tie.Need-enum-told
 enum-told c = search needs

@@ -1,8 +1,8 @@
--- `column_data::family::is_plp` meets its contract: the test is the definition's. Assumes nothing.
+-- `column_data::content::is_plp` meets its contract: the test is the definition's. Assumes nothing.
 use borrow.Author.Tests.{eq-eqb, ne-eqb}
 use mathlib.Core.Path.{sym}
-use Rattle.column_data.proofs.family.is_plp.Statement.{statement}
-use Rattle.column_data.proofs.family.is_plp.Tie as tie
+use Rattle.column_data.proofs.content.is_plp.Statement.{statement}
+use Rattle.column_data.proofs.content.is_plp.Tie as tie
 
 returns : tie.Need-returns
 returns c = sym (eq-eqb _ _ (c .if1 .taken))

@@ -1,7 +1,7 @@
--- `column_data::family::is_short` meets its contract: each kind has its limit. Assumes nothing.
+-- `column_data::content::is_short` meets its contract: each kind has its limit. Assumes nothing.
 use borrow.Author.Needs.{needs}
-use Rattle.column_data.proofs.family.is_short.Statement.{statement}
-use Rattle.column_data.proofs.family.is_short.Tie as tie
+use Rattle.column_data.proofs.content.is_short.Statement.{statement}
+use Rattle.column_data.proofs.content.is_short.Tie as tie
 
 enum-told : tie.Need-enum-told
 enum-told c = search needs

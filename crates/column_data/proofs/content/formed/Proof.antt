@@ -1,11 +1,11 @@
--- `column_data::size::formed` meets its contract: the counts of the two forms. Assumes nothing.
+-- `column_data::content::formed` meets its contract: the counts of the two forms. Assumes nothing.
 use mathlib.Core.Path.{_∙_}
 use native.Mathlib.Omega.{arith}
 use Prim.Native.Nat.{_<_}
 use Rattle.column_data.proofs.ContentLaws.{short-size, plp-none, plp-size}
 use borrow.Author.Needs.{needs}
-use Rattle.column_data.proofs.size.formed.Statement.{statement}
-use Rattle.column_data.proofs.size.formed.Tie as tie
+use Rattle.column_data.proofs.content.formed.Statement.{statement}
+use Rattle.column_data.proofs.content.formed.Tie as tie
 
 returns : tie.Need-returns
 returns c = rw (c .before .if1 .taken) (λ l e. plp-none l (e ∙ c .if2 .taken), omega arith)

@@ -1,12 +1,12 @@
--- `column_data::size::content` meets its contract: under its own family content within the bound, and refusal 3 under any other. Assumes nothing.
+-- `column_data::content::content` meets its contract: under its own family content within the bound, and refusal 3 under any other. Assumes nothing.
 use mathlib.Core.Path.{refl, sym, _∙_}
 use mathlib.Core.List.{[]}
 use Rattle.format.specs.Answer.{wrote}
 use Rattle.column_data.specs.Told.{contentKindTold, spanTold}
 use Rattle.column_data.proofs.ContentLaws.{same-content, no-fixed, no-listed, other-content, content-size}
 use borrow.Author.Needs.{needs}
-use Rattle.column_data.proofs.size.content.Statement.{statement}
-use Rattle.column_data.proofs.size.content.Tie as tie
+use Rattle.column_data.proofs.content.content.Statement.{statement}
+use Rattle.column_data.proofs.content.content.Tie as tie
 
 enum-told : tie.Need-enum-told
 enum-told c = search needs

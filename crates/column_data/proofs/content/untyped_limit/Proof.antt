@@ -1,8 +1,8 @@
--- `column_data::size::untyped_limit` meets its contract: short content is within 8,000, PLP within its own bound. Assumes nothing.
+-- `column_data::content::untyped_limit` meets its contract: short content is within 8,000, PLP within its own bound. Assumes nothing.
 use Rattle.format.specs.Value.{untypedBound}
 use borrow.Author.Needs.{needs}
-use Rattle.column_data.proofs.size.untyped_limit.Statement.{statement}
-use Rattle.column_data.proofs.size.untyped_limit.Tie as tie
+use Rattle.column_data.proofs.content.untyped_limit.Statement.{statement}
+use Rattle.column_data.proofs.content.untyped_limit.Tie as tie
 
 returns : tie.Need-returns
 returns c = search needs
