@@ -3,15 +3,15 @@
 use mathlib.Core.Path.{_≡_, refl, sym, ap, _∙_}
 use mathlib.Core.Bool.{Bool, true, false}
 use mathlib.Core.List.{List, [], _++_, append-nil}
-use Prim.Native.Nat.{ℕ, _+_, _<_, _≤_}
+use Prim.Native.Nat.{ℕ, _+_, _≤_}
 use native.Mathlib.Omega.{arith}
 use lib.ListN.{length, drop, drop-of-length-le}
 use lib.Seq.{sets, drop-drop}
 use borrow.Rule.Slice.PartMut.{putMid}
 use Rattle.lists.specs.Put.{putAt}
 use Rattle.lists.proofs.Front.{sets-put, sets-front}
-use Rattle.format.specs.Answer.{Answer, gives, refuses, Refusal, room, refuseIf, fitted, wrote, roomAfter}
-use Rattle.wire.proofs.Writing.{no-room, has-room}
+use Rattle.format.specs.Answer.{Answer, gives, refuses, Refusal, refuseIf, fitted, wrote, roomAfter}
+use Rattle.wire.proofs.Writing.{has-room}
 
 -- ---- an answer that has a count
 
@@ -65,11 +65,9 @@ lent-sets out ys a n h e = rw (drop-drop n a out, ← e) (sym (sets-put out a ys
 pub copied : (s out new : List ℕ) → gives (length out) ≡ wrote (gives s) → new ≡ s ++ drop (length s) out → gives new ≡ gives s
 copied s out new h e = ap gives (e ∙ behind-all out s (sym (count-is (gives s) (length out) s h refl)))
 
--- ---- the room test between the two passes
+-- ---- between the two passes
 
-pub room-short : (a : Answer (List ℕ)) (out : List ℕ) (n : ℕ) → gives n ≡ wrote a → length out < n → (refuses room ≡ wrote (fitted a (length out))) × (out ≡ roomAfter (fitted a (length out)) out)
-room-short a out n h i = let w = wrote-gives a n h in rw (w .1) (no-room (w .0) out (omega (arith, w .2)))
-
+-- there is room, and its front comes back filled
 pub room-filled : (a : Answer (List ℕ)) (out ys : List ℕ) (n : ℕ) → gives n ≡ wrote a → n ≤ length out → gives ys ≡ a → (gives n ≡ wrote (fitted a (length out))) × (ys ++ drop n out ≡ roomAfter (fitted a (length out)) out)
 room-filled a out ys n h i e =
     let l = count-is a n ys h (sym e) in
