@@ -15,7 +15,7 @@ use Rattle.format.specs.Number.{lowBytes}
 use Rattle.format.specs.Text.{textIn}
 use Rattle.format.specs.Plp.{plpMark, plpNull, plpBytes}
 use Rattle.format.specs.Scalar.{Kind}
-use Rattle.format.specs.Value.{ContentKind, Given, fixedWidth, lengthByte, content, contentBound, shortNull, encodeContent, bounded, stringOf, writeFamily, untypedText, writeUntyped}
+use Rattle.format.specs.Value.{ContentKind, Given, fixedWidth, lengthByte, content, contentBound, shortNull, encodeContent, bounded, stringOf, writeFamily, untypedLength, untypedBinary, untypedString, untypedText, writeUntyped}
 use Rattle.format.proofs.Text.{in-short}
 use Rattle.column_data.specs.Form.{givenOf, sameContent, encoded, encodedPart, formed, framed, shortUpTo, untypedHead, untypedLimit}
 
@@ -81,12 +81,16 @@ content-size d j k p plp bound x i e f h = rw (e, f) at h ∙ rw (i, content-fra
 -- short content is within its declared length: a byte of UTF-8 is at most two of UTF-16LE
 untyped-binary : (s : List ℕ) (b : Bool) → leb (length s) (shortUpTo ContentKind.binary) ≡ b → writeUntyped (Given.binary (inside s)) ≡ framed (untypedHead ContentKind.binary b) (not b) (untypedLimit b) s
 unfolding writeUntyped framed
-untyped-binary s true e = let t = le-ltb 8000 (length s) (leb-true (length s) 8000 e) in rw (e, t)
+untyped-binary s true e = let t = le-ltb untypedLength (length s) (leb-true (length s) untypedBinary e) in rw (e, t)
 untyped-binary s false e = rw e
 
 untyped-string : (s : List ℕ) (b : Bool) → leb (length s) (shortUpTo ContentKind.string) ≡ b → (a : Answer (List ℕ)) → textIn s ≡ a → untypedText b a ≡ andThen a (framed (untypedHead ContentKind.string b) (not b) (untypedLimit b))
 unfolding framed
-untyped-string s true e (gives c) t = let i = in-short s c t in let j = leb-true (length s) 4000 e in let u = le-ltb 8000 (length c) (omega arith) in rw u
+untyped-string s true e (gives c) t =
+    let i = in-short s c t in
+    let j = leb-true (length s) untypedString e in
+    let u = le-ltb untypedLength (length c) (omega arith) in
+    rw u
 untyped-string s false e (gives c) t = refl
 untyped-string s b e (refuses r) t = refl
 

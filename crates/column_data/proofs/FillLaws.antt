@@ -3,7 +3,7 @@
 use mathlib.Core.Path.{_≡_, refl, sym, ap, _∙_}
 use mathlib.Core.Bool.{Bool, true, false}
 use mathlib.Core.List.{List, [], _++_, append-nil}
-use Prim.Native.Nat.{ℕ, _+_, _<_, _≤_}
+use Prim.Native.Nat.{ℕ, _+_, _≤_}
 use native.Mathlib.Omega.{arith}
 use lib.ListN.{length, drop, drop-of-length-le}
 use lib.Seq.{sets, drop-drop}
@@ -65,8 +65,9 @@ lent-sets out ys a n h e = rw (drop-drop n a out, ← e) (sym (sets-put out a ys
 pub copied : (s out new : List ℕ) → gives (length out) ≡ wrote (gives s) → new ≡ s ++ drop (length s) out → gives new ≡ gives s
 copied s out new h e = ap gives (e ∙ behind-all out s (sym (count-is (gives s) (length out) s h refl)))
 
--- ---- the room after both passes
+-- ---- between the two passes
 
+-- there is room, and its front comes back filled
 pub room-filled : (a : Answer (List ℕ)) (out ys : List ℕ) (n : ℕ) → gives n ≡ wrote a → n ≤ length out → gives ys ≡ a → (gives n ≡ wrote (fitted a (length out))) × (ys ++ drop n out ≡ roomAfter (fitted a (length out)) out)
 room-filled a out ys n h i e =
     let l = count-is a n ys h (sym e) in

@@ -1,5 +1,5 @@
 -- Binary and string content along one path: how content is written, in which form, behind which bytes and within which bound.
--- Second definitions; proofs/ContentLaws.antt and proofs/FormLaws.antt tie them to those of `format`.
+-- Second definitions, as the code goes; proofs/ContentLaws.antt ties them to those of `format`.
 use Prim.Native.Nat.{ℕ}
 use mathlib.Core.List.{List, _∷_, _++_}
 use mathlib.Core.Bool.{Bool, true, false}
