@@ -3,4 +3,3 @@ pub mod ScalarLaws
 pub mod ContentLaws
 pub mod FormLaws
 pub mod ColumnLaws
-pub mod Decided

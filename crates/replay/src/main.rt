@@ -5,6 +5,7 @@ mod packet;
 mod say;
 mod texts;
 mod types;
+mod values;
 
 use wire::Cursor;
 use wire::NumberRead;
@@ -16,6 +17,8 @@ fn in_room(op: u8, frame: &[u8], room: &mut [u8]) {
         0x21 => packet::header_write(frame, room),
         0x22 => packet::prelogin_write(frame, room),
         0x29 => types::type_write(frame, room),
+        0x31 => values::value_write(frame, room),
+        0x32 => values::untyped_write(frame, room),
         0x48 => texts::text_in(frame, room),
         0x49 => texts::text_out(frame, room),
         _ => say::bad(),

@@ -5,9 +5,9 @@ use mathlib.Core.List.{List, [], _++_}
 use Prim.Native.Nat.{ℕ, _<_, _≤_}
 use native.Mathlib.Omega.{arith}
 use lib.ListN.{length, drop}
-use Rattle.format.specs.Answer.{Answer, gives, refuses, room, fitted, wrote, roomAfter}
+use Rattle.format.specs.Answer.{Answer, gives, refuses, fitted, wrote, roomAfter}
 use Rattle.format.proofs.Answer.{no-gives}
-use Rattle.wire.proofs.Writing.{no-room, has-room}
+use Rattle.wire.proofs.Writing.{has-room}
 use Rattle.text.specs.Told.{Fitting}
 
 -- the bytes that an answer gives
@@ -29,11 +29,6 @@ abbrev Leaves : Answer ℕ → List ℕ → Answer (List ℕ) → List ℕ → T
 Leaves told new a out = (told ≡ wrote (fitted a (length out))) × (new ≡ roomAfter (fitted a (length out)) out)
 
 module _ (out : List ℕ) (n : ℕ) where
-  pub sized-short : (a : Answer (List ℕ)) → gives n ≡ wrote a → length out < n → Leaves (refuses room) out a out
-  unfolding wrote
-  sized-short (gives b) h k = let e : n ≡ length b = cc in no-room b out (omega arith)
-  sized-short (refuses d) h k = no-gives d n (sym h)
-
   pub sized-fits : (a : Answer (List ℕ)) → gives n ≡ wrote a → n ≤ length out → Fitting a (length out)
   unfolding wrote
   sized-fits (gives b) h k = let e : n ≡ length b = cc in omega arith

@@ -22,3 +22,9 @@ pub refused-before : (answer : Answer (List ℕ)) (out : List ℕ) (e : Refusal)
 unfolding fitted wrote roomAfter
 refused-before (gives bytes) out e h = let z : _≡_ {A = ℕ} 0 1 = cc in absurd (omega arith)
 refused-before (refuses d) out e h = (h, refl)
+
+-- the size is found first, and the room is shorter
+pub sized-short : (answer : Answer (List ℕ)) (out : List ℕ) (n : ℕ) → gives n ≡ wrote answer → length out < n → (refuses room ≡ wrote (fitted answer (length out))) × (out ≡ roomAfter (fitted answer (length out)) out)
+unfolding wrote
+sized-short (gives bytes) out n h k = let e : n ≡ length bytes = cc in no-room bytes out (omega arith)
+sized-short (refuses d) out n h k = let z : _≡_ {A = ℕ} 0 1 = cc in absurd (omega arith)

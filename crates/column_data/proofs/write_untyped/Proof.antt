@@ -2,8 +2,7 @@
 use mathlib.Core.Path.{sym, ap, _∙_}
 use lib.Seq.{length-take-le}
 use Rattle.wire.specs.Told.{wroteTold}
-use Rattle.wire.proofs.Writing.{refused-before}
-use Rattle.text.proofs.Sized.{sized-short}
+use Rattle.wire.proofs.Writing.{refused-before, sized-short}
 use Rattle.format.specs.Value.{writeUntyped}
 use Rattle.column_data.specs.Told.{valueTold}
 use Rattle.column_data.proofs.FillLaws.{room-filled}
@@ -18,7 +17,7 @@ enum-known-needed : tie.Need-enum-known-needed
 enum-known-needed c = search needs
 
 returns : tie.Need-returns
-returns c = sized-short (c .before .before .before .before .before .before .before .args .out .now) _ (writeUntyped (valueTold (c .before .before .before .before .before .before .before .args .buffer .now) (c .before .before .before .before .before .before .before .args .v))) (sym (ap wroteTold (c .before .before .needed .given .1)) ∙ c .before .before .before .before .untyped-size .ensures) (c .if1 .taken)
+returns c = sized-short (writeUntyped (valueTold (c .before .before .before .before .before .before .before .args .buffer .now) (c .before .before .before .before .before .before .before .args .v))) (c .before .before .before .before .before .before .before .args .out .now) _ (sym (ap wroteTold (c .before .before .needed .given .1)) ∙ c .before .before .before .before .untyped-size .ensures) (c .if1 .taken)
 
 slice-relend-prefix-fill-untyped : tie.Need-slice-relend-prefix-fill-untyped
 slice-relend-prefix-fill-untyped c = search needs

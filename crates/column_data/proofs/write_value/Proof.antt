@@ -3,8 +3,7 @@ use mathlib.Core.Path.{sym, ap, _∙_}
 use native.Mathlib.Omega.{arith}
 use lib.Seq.{length-take-le}
 use Rattle.wire.specs.Told.{wroteTold}
-use Rattle.wire.proofs.Writing.{refused-before}
-use Rattle.text.proofs.Sized.{sized-short}
+use Rattle.wire.proofs.Writing.{refused-before, sized-short}
 use Rattle.format.specs.Value.{writeValue}
 use Rattle.type_info.specs.Told.{columnTold}
 use Rattle.column_data.specs.Told.{valueTold}
@@ -26,7 +25,7 @@ returns c =
     let col = columnTold (s .args .buffer .now) (s .args .c) in
     let g = valueTold (s .args .buffer .now) (s .args .v) in
     let w = sym (ap wroteTold (c .before .before .needed .given .1)) ∙ c .before .before .before .before .value-size .ensures in
-    sized-short (s .args .out .now) _ (writeValue col g) w (c .if1 .taken)
+    sized-short (writeValue col g) (s .args .out .now) _ w (c .if1 .taken)
 
 family-of-requires : tie.Need-family-of-requires
 family-of-requires c κs = search needs

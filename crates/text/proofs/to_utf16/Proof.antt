@@ -5,8 +5,8 @@ use borrow.Author.Needs.{needs}
 use Rattle.format.specs.Answer.{gives, wrote}
 use Rattle.format.specs.Text.{textIn}
 use Rattle.wire.specs.Told.{wroteTold}
-use Rattle.wire.proofs.Writing.{refused-before}
-use Rattle.text.proofs.Sized.{sized-short, sized-fits, sized-written}
+use Rattle.wire.proofs.Writing.{refused-before, sized-short}
+use Rattle.text.proofs.Sized.{sized-fits, sized-written}
 use Rattle.text.proofs.to_utf16.Statement.{statement}
 use Rattle.text.proofs.to_utf16.Tie as tie
 
@@ -24,7 +24,7 @@ returns : tie.Need-returns
 returns c =
     let w = c .before .before in
     let a = w .before .before .before .before .before .args in
-    sized-short (now (a .out)) (w .size .given .0 .0) (textIn (now (a .s))) (found w) (c .if1 .taken)
+    sized-short (textIn (now (a .s))) (now (a .out)) (w .size .given .0 .0) (found w) (c .if1 .taken)
 
 put-utf16-requires : tie.Need-put-utf16-requires
 put-utf16-requires c κs =

@@ -5,8 +5,8 @@ use borrow.Author.Needs.{needs}
 use Rattle.format.specs.Answer.{gives, wrote}
 use Rattle.format.specs.Text.{textOut}
 use Rattle.wire.specs.Told.{wroteTold}
-use Rattle.wire.proofs.Writing.{refused-before}
-use Rattle.text.proofs.Sized.{sized-short, sized-fits, sized-written}
+use Rattle.wire.proofs.Writing.{refused-before, sized-short}
+use Rattle.text.proofs.Sized.{sized-fits, sized-written}
 use Rattle.text.proofs.to_utf8.Statement.{statement}
 use Rattle.text.proofs.to_utf8.Tie as tie
 
@@ -24,7 +24,7 @@ returns : tie.Need-returns
 returns c =
     let w = c .before .before in
     let a = w .before .before .before .before .before .args in
-    sized-short (now (a .out)) (w .size .given .0 .0) (textOut (now (a .u))) (found w) (c .if1 .taken)
+    sized-short (textOut (now (a .u))) (now (a .out)) (w .size .given .0 .0) (found w) (c .if1 .taken)
 
 put-utf8-requires : tie.Need-put-utf8-requires
 put-utf8-requires c κs =
