@@ -31,17 +31,16 @@ fn encoded(k: ContentKind, s: &[u8]) -> Wrote
 }
 
 // Content of n bytes in its form: PLP of none is the two marks alone.
-fn formed(plp: bool, n: usize) -> usize
-    requires { ⌜ n < 4294967296 ⌝ }
+fn formed(plp: bool, n: u32) -> usize
     ensures { λ r. ⌜ ((c : List ℕ) → length c ≡ n → r ≡ length (formed plp c)) × (r < 4294967312) ⌝ }
 {
     if plp {
         if n == 0 {
             return 12;
         }
-        return 16 + n;
+        return 16 + n as usize;
     }
-    2 + n
+    2 + n as usize
 }
 
 // Content within a bound, in its form, behind a head of so many bytes.
@@ -54,7 +53,7 @@ fn framed(k: ContentKind, s: &[u8], head: u8, plp: bool, bound: u32) -> Wrote
             if (bound as usize) < n {
                 return Wrote::Refused(Refusal::Long);
             }
-            Wrote::Bytes(head as usize + formed(plp, n))
+            Wrote::Bytes(head as usize + formed(plp, n as u32))
         }
         Wrote::Refused(e) => Wrote::Refused(e),
     }
@@ -86,7 +85,7 @@ pub fn is_plp(declared: u32) -> bool
 fn content_bound(declared: u32) -> u32
     ensures { λ r. ⌜ r ≡ contentBound declared ⌝ }
 {
-    if declared == 65535 {
+    if is_plp(declared) {
         return 65535;
     }
     declared

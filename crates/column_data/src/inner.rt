@@ -44,7 +44,7 @@ fn fill_null(f: Family, declared: u32, out: &mut [u8])
         Family::Fixed(_) => {}
         Family::LengthByte(_) => wire::inner::put_byte(out, 0, 0),
         Family::Content(_) => {
-            if declared == 65535 {
+            if content::is_plp(declared) {
                 wire::inner::put_low(out, 0, 0xFFFFFFFFFFFFFFFF, 8);
                 return;
             }

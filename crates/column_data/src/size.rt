@@ -27,7 +27,7 @@ fn null(f: Family, declared: u32) -> Wrote
         Family::Fixed(_) => Wrote::Refused(Refusal::Kind),
         Family::LengthByte(_) => Wrote::Bytes(1),
         Family::Content(_) => {
-            if declared == 65535 {
+            if content::is_plp(declared) {
                 return Wrote::Bytes(8);
             }
             Wrote::Bytes(2)

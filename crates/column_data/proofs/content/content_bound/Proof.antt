@@ -1,15 +1,19 @@
--- `column_data::content::content_bound` meets its contract: 65,535 is the mark and its own bound. Assumes nothing.
-use borrow.Author.Tests.{eq-eqb, ne-eqb}
+-- `column_data::content::content_bound` meets its contract: 65,535 is the mark, and its own bound. Assumes nothing.
+use mathlib.Core.Path.{sym, _∙_}
 use Rattle.format.specs.Plp.{plpBound}
+use borrow.Author.Needs.{needs}
 use Rattle.column_data.proofs.content.content_bound.Statement.{statement}
 use Rattle.column_data.proofs.content.content_bound.Tie as tie
 
+is-plp-requires : tie.Need-is-plp-requires
+is-plp-requires c κs = search needs
+
 returns : tie.Need-returns
 unfolding plpBound
-returns c = rw (eq-eqb (c .before .args .declared) 65535 (c .if1 .taken))
+returns c = rw (sym (c .before .is-plp .ensures) ∙ c .if1 .taken)
 
 returns-2 : tie.Need-returns-2
-returns-2 c = rw (ne-eqb (c .before .args .declared) 65535 (c .if1 .left))
+returns-2 c = rw (sym (c .before .is-plp .ensures) ∙ c .if1 .left)
 
 pub content-bound-spec : {M : Type 1} → statement M
-content-bound-spec = tie.close (tie.spec returns returns-2)
+content-bound-spec = tie.close (tie.spec is-plp-requires returns returns-2)

@@ -1,7 +1,7 @@
 -- `column_data::content::formed` meets its contract: the counts of the two forms. Assumes nothing.
 use mathlib.Core.Path.{_∙_}
-use native.Mathlib.Omega.{arith}
 use Prim.Native.Nat.{_<_}
+use native.Mathlib.Omega.{arith}
 use Rattle.column_data.proofs.ContentLaws.{short-size, plp-none, plp-size}
 use borrow.Author.Needs.{needs}
 use Rattle.column_data.proofs.content.formed.Statement.{statement}

@@ -1,13 +1,12 @@
 -- `column_data::inner::fill_null` meets its contract: one run of stores, the family's null. Assumes nothing.
-use Rattle.column_data.specs.Told.{contentKindTold}
-use mathlib.Core.Path.{refl}
+use mathlib.Core.Path.{refl, sym, _∙_}
 use native.Mathlib.Omega.{arith}
-use borrow.Author.Tests.{eq-eqb, ne-eqb}
 use mathlib.Core.List.{[], _∷_}
 use Rattle.format.specs.Number.{lowBytes}
 use Rattle.format.specs.Plp.{plpNull}
 use Rattle.format.specs.Value.{shortNull}
 use Rattle.format.specs.Answer.{gives, kind, notCarried}
+use Rattle.column_data.specs.Told.{contentKindTold}
 use Rattle.column_data.proofs.FillLaws.{not-refused, count-is, filled}
 use Rattle.column_data.proofs.ContentLaws.{null-plp, null-short}
 use borrow.Author.Needs.{needs}
@@ -26,12 +25,15 @@ put-byte-requires c κs = omega (arith, count-is (gives (0 ∷ [])) _ (0 ∷ [])
 enum-told-3 : tie.Need-enum-told-3
 enum-told-3 c = search needs
 
+is-plp-requires : tie.Need-is-plp-requires
+is-plp-requires c κs = search needs
+
 put-low-requires : tie.Need-put-low-requires
 put-low-requires c κs =
-    let s = c .before .before .before .before .before in
-    let t = c .before .before .enum-told3 .given in
+    let s = c .before .before .before .before .before .before in
+    let t = c .before .before .before .enum-told3 .given in
     let p = rw (t .1) at (s .pre) in
-    let n = null-plp (s .args .declared) (contentKindTold (t .0 .0)) (eq-eqb (s .args .declared) 65535 (c .before .if1 .taken)) in
+    let n = null-plp (s .args .declared) (contentKindTold (t .0 .0)) (sym (c .before .before .is-plp .ensures) ∙ c .before .if1 .taken) in
     omega (arith, count-is _ _ (lowBytes 8 plpNull) p n)
 
 same-length : tie.Need-same-length
@@ -39,18 +41,18 @@ same-length c = search needs
 
 returns : tie.Need-returns
 returns c =
-    let s = c .before .before .before .before .before .before .before .before in
-    let t = c .before .before .before .before .before .enum-told3 .given in
+    let s = c .before .before .before .before .before .before .before .before .before in
+    let t = c .before .before .before .before .before .before .enum-told3 .given in
     let p = rw (t .1) at (s .pre) in
-    let n = null-plp (s .args .declared) (contentKindTold (t .0 .0)) (eq-eqb (s .args .declared) 65535 (c .before .before .before .before .if1 .taken)) in
+    let n = null-plp (s .args .declared) (contentKindTold (t .0 .0)) (sym (c .before .before .before .before .before .is-plp .ensures) ∙ c .before .before .before .before .if1 .taken) in
     rw (t .1) (filled _ (s .args .out .now) _ (lowBytes 8 plpNull) p n (c .before .before .put-low .ensures))
 
 put-low-requires-2 : tie.Need-put-low-requires-2
 put-low-requires-2 c κs =
-    let s = c .before .before .before .before .before in
-    let t = c .before .before .enum-told3 .given in
+    let s = c .before .before .before .before .before .before in
+    let t = c .before .before .before .enum-told3 .given in
     let p = rw (t .1) at (s .pre) in
-    let n = null-short (s .args .declared) (contentKindTold (t .0 .0)) (ne-eqb (s .args .declared) 65535 (c .before .if1 .left)) in
+    let n = null-short (s .args .declared) (contentKindTold (t .0 .0)) (sym (c .before .before .is-plp .ensures) ∙ c .before .if1 .left) in
     omega (arith, count-is _ _ (lowBytes 2 shortNull) p n)
 
 enum-told-4 : tie.Need-enum-told-4
@@ -70,10 +72,10 @@ same-length-3 c = search needs
 
 returns-4 : tie.Need-returns-4
 returns-4 c =
-    let s = c .before .before .before .before .before .before .before .before in
-    let t = c .before .before .before .before .before .enum-told3 .given in
+    let s = c .before .before .before .before .before .before .before .before .before in
+    let t = c .before .before .before .before .before .before .enum-told3 .given in
     let p = rw (t .1) at (s .pre) in
-    let n = null-short (s .args .declared) (contentKindTold (t .0 .0)) (ne-eqb (s .args .declared) 65535 (c .before .before .before .before .if1 .left)) in
+    let n = null-short (s .args .declared) (contentKindTold (t .0 .0)) (sym (c .before .before .before .before .before .is-plp .ensures) ∙ c .before .before .before .before .if1 .left) in
     rw (t .1) (filled _ (s .args .out .now) _ (lowBytes 2 shortNull) p n (c .before .before .put-low2 .ensures))
 
 returns-5 : tie.Need-returns-5
@@ -87,6 +89,7 @@ fill-null-spec =
     enum-told-2
     put-byte-requires
     enum-told-3
+    is-plp-requires
     put-low-requires
     same-length
     returns

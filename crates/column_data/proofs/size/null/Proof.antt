@@ -1,5 +1,5 @@
 -- `column_data::size::null` meets its contract: each family's null, and none under a fixed type. Assumes nothing.
-use borrow.Author.Tests.{eq-eqb, ne-eqb}
+use mathlib.Core.Path.{sym, _∙_}
 use Rattle.format.specs.Answer.{wrote}
 use Rattle.format.specs.Plp.{plpBytes}
 use borrow.Author.Needs.{needs}
@@ -15,9 +15,12 @@ enum-told-2 c = search needs
 enum-told-3 : tie.Need-enum-told-3
 enum-told-3 c = search needs
 
+is-plp-requires : tie.Need-is-plp-requires
+is-plp-requires c κs = search needs
+
 returns : tie.Need-returns
 unfolding wrote plpBytes
-returns c = rw (c .before .enum-told3 .given .1, eq-eqb (c .before .before .before .args .declared) 65535 (c .if1 .taken))
+returns c = rw (c .before .before .enum-told3 .given .1, (sym (c .before .is-plp .ensures) ∙ c .if1 .taken))
 
 enum-told-4 : tie.Need-enum-told-4
 enum-told-4 c = search needs
@@ -32,7 +35,7 @@ returns-3 c = rw (c .enum-told2 .given .1)
 
 returns-4 : tie.Need-returns-4
 unfolding wrote plpBytes
-returns-4 c = rw (c .before .enum-told3 .given .1, ne-eqb (c .before .before .before .args .declared) 65535 (c .if1 .left))
+returns-4 c = rw (c .before .before .enum-told3 .given .1, (sym (c .before .is-plp .ensures) ∙ c .if1 .left))
 
 returns-5 : tie.Need-returns-5
 unfolding wrote plpBytes
@@ -45,6 +48,7 @@ null-spec =
     enum-told
     enum-told-2
     enum-told-3
+    is-plp-requires
     returns
     enum-told-4
     returns-2
