@@ -6,12 +6,9 @@ use Prim.Native.Nat.{ℕ, _<_, _^_}
 use native.Mathlib.Omega.{arith}
 use borrow.Author.Tests.{ltb-true, eqb-true}
 use Rattle.format.specs.Answer.{gives, refuses, rule, wrote}
-use Rattle.format.specs.Descriptor.{TypeId, fixedLen, byteLen, uShortLen, longLen, daten, xml, udt, ssVariant, Column, both, lengthFits, keepsRule}
+use Rattle.format.specs.Descriptor.{TypeId, fixedLen, byteLen, uShortLen, longLen, daten, xml, udt, ssVariant, Column, lengthFits, keepsRule}
 use Rattle.format.specs.Value.{Given, familyOf, writeFamily, writeValue}
-
-first-of : (a b : Bool) → both a b ≡ true → a ≡ true
-first-of true b h = refl
-first-of false b h = h
+use Rattle.format.proofs.DescriptorForm.{both-true}
 
 length-below : (t : TypeId) (n : ℕ) → lengthFits t n ≡ true → n < 256 ^ 4
 length-below (fixedLen t) n h = let e = eqb-true n 0 h in omega arith
@@ -26,7 +23,7 @@ length-below ssVariant n h = let e = eqb-true n 0 h in omega arith
 module _ (c : Column) where
   pub length-fits : keepsRule c ≡ true → c .length < 256 ^ 4
   unfolding keepsRule
-  length-fits h = length-below (c .type) (c .length) (first-of (lengthFits (c .type) (c .length)) _ h)
+  length-fits h = length-below (c .type) (c .length) (both-true (lengthFits (c .type) (c .length)) _ h .0)
 
   pub rule-kept : (g : Given) → keepsRule c ≡ true → writeValue c g ≡ writeFamily (c .length) (familyOf (c .type)) g
   unfolding writeValue

@@ -1,5 +1,6 @@
 // The writing pass. It fills the room that it is lent to its last byte, and cannot fail: a caller
 // lends as many bytes as the size pass found. Empty arms are those that the size pass has refused.
+// For this crate alone.
 ghost use mathlib.Core.Path.{_≡_};
 ghost use mathlib.Core.Bool.{true};
 ghost use Prim.Native.Nat.{_+_, _≤_};
@@ -124,7 +125,7 @@ fn fill_span(k: ContentKind, p: Span, buffer: &[u8], plp: bool, out: &mut [u8])
 }
 
 // A value under a family.
-pub fn fill(f: Family, declared: u32, v: Value, buffer: &[u8], out: &mut [u8])
+pub(crate) fn fill(f: Family, declared: u32, v: Value, buffer: &[u8], out: &mut [u8])
     requires { ⌜ gives (length (now out)) ≡ wrote (writeFamily declared (familyTold f) (valueTold (now buffer) v)) ⌝ }
     ensures { λ _. ⌜ gives (now (out .exit)) ≡ writeFamily declared (familyTold f) (valueTold (now (buffer .entry)) v) ⌝ }
 {
@@ -181,7 +182,7 @@ fn fill_untyped_content(k: ContentKind, p: Span, buffer: &[u8], out: &mut [u8])
 }
 
 // A value behind its own descriptor.
-pub fn fill_untyped(v: Value, buffer: &[u8], out: &mut [u8])
+pub(crate) fn fill_untyped(v: Value, buffer: &[u8], out: &mut [u8])
     requires { ⌜ gives (length (now out)) ≡ wrote (writeUntyped (valueTold (now buffer) v)) ⌝ }
     ensures { λ _. ⌜ gives (now (out .exit)) ≡ writeUntyped (valueTold (now (buffer .entry)) v) ⌝ }
 {

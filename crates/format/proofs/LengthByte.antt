@@ -6,14 +6,14 @@ use mathlib.Core.Path.{_≡_, refl, ap, sym, _∙_}
 use mathlib.Core.List.{List, [], _∷_, _++_}
 use mathlib.Core.Bool.{Bool, true, false}
 use mathlib.Core.Option.{Option, none, some}
-use Prim.Native.Nat.{ℕ, suc, _+_, _-_, _≤_}
+use Prim.Native.Nat.{ℕ, _+_, _-_, _≤_}
 use native.Mathlib.Omega.{arith}
 use lib.ListN.{length, getD, drop}
 use lib.Dec.{ltb, eqb}
 use borrow.Author.Tests.{le-ltb, ltb-false, eqb-true, eq-eqb}
 use Rattle.lists.specs.Pick.{pick}
 use Rattle.lists.proofs.Split.{split}
-use Rattle.format.specs.Answer.{took, mapRead, thenRead, long, sequence}
+use Rattle.format.specs.Answer.{took, mapRead, long, sequence}
 use Rattle.format.specs.Number.{readByte}
 use Rattle.format.specs.Scalar.{Kind, Scalar, width, kindOf, scalarBytes, readScalar, place, sameKind, isOneOf}
 use Rattle.format.specs.Value.{Value, lengthByte, ofWidth, readWidth, readLengthByte, readFamily, encodeIn}

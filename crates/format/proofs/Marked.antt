@@ -3,14 +3,13 @@
 -- Assumes nothing.
 use mathlib.Core.Path.{_≡_, refl}
 use mathlib.Core.List.{List, [], _∷_}
-use mathlib.Core.Bool.{true, false}
-use mathlib.Core.Option.{Option, none, some}
+use mathlib.Core.Bool.{false}
 use Prim.Native.Nat.{ℕ}
 use lib.IntN.{negsuc}
-use Rattle.format.specs.Answer.{Answer, gives, refuses, Read, took, stops, unknown, long, sequence, Part, inside, thenRead}
+use Rattle.format.specs.Answer.{Answer, gives, refuses, Read, took, stops, unknown, long, sequence, inside, thenRead}
 use Rattle.format.specs.Number.{signed, unsigned, readBytes, readByte, readLow}
 use Rattle.format.specs.Guid.{guidOrder}
-use Rattle.format.specs.Text.{char8, utf8, utf16, scalars, spelled, textIn}
+use Rattle.format.specs.Text.{char8, utf16, scalars, spelled, textIn}
 use Rattle.format.specs.Header.{Header, readHeader, writeHeader}
 use Rattle.format.specs.Prelogin.{Prelogin, writePrelogin}
 use Rattle.format.specs.Descriptor.{ByteLen, UShortLen, byteLen, uShortLen, daten, xml, Column, plain, withSort, typeOf, readColumn, keepsRule, columnBytes, writeColumn}

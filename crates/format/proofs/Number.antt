@@ -5,7 +5,7 @@ use mathlib.Core.Path.{_≡_, refl, ap, sym, _∙_}
 use mathlib.Core.List.{List, [], _∷_, _++_}
 use mathlib.Core.Bool.{Bool, true, false}
 use Prim.Native.Nat.{ℕ, zero, suc, _+_, _*_, _-_, _/_, _%_, _^_, _<_, _≤_}
-use native.Mathlib.Nat.{pow-suc, add-zero, zero-add, add-suc, add-assoc, add-mul, mul-one, mul-assoc, mul-comm, mul-le-mul-right, pow-zero}
+use native.Mathlib.Nat.{pow-suc, add-zero, add-suc, add-mul, mul-one, mul-assoc, mul-comm, mul-le-mul-right, pow-zero}
 use native.Mathlib.Omega.{arith}
 use lib.ListN.{length, getD, length-append}
 use lib.Dec.{ltb}
@@ -126,8 +126,8 @@ unfolding signed unsigned
 signed-back w (pos n) p h = rw (lt-ltb _ _ h)
 signed-back w (negsuc k) p h =
     let g = half w p in
-    let e : 256 ^ w - suc (256 ^ w - suc k) ≡ k = omega arith in
-    let l : 256 ^ w / 2 ≤ 256 ^ w - suc k = omega arith in
+    let e : 256 ^ w - suc (unsigned w (negsuc k)) ≡ k = omega arith in
+    let l : 256 ^ w / 2 ≤ unsigned w (negsuc k) = omega arith in
     rw (le-ltb _ _ l, e)
 
 pub signed-forth : (w n : ℕ) → 0 < w → n < 256 ^ w → unsigned w (signed w n) ≡ n

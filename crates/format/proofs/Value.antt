@@ -6,13 +6,13 @@
 -- Assumes nothing.
 use mathlib.Core.Path.{_≡_, refl}
 use mathlib.Core.List.{List, _++_}
-use mathlib.Core.Bool.{Bool, true, false, not}
+use mathlib.Core.Bool.{true, not}
 use mathlib.Core.Option.{Option, none, some}
 use Prim.Native.Nat.{ℕ, _+_, _^_, _<_, _≤_}
 use lib.ListN.{length}
 use borrow.Author.Tests.{ltb-true, not-false}
 use Rattle.format.specs.Answer.{took, rule, notCarried}
-use Rattle.format.specs.Descriptor.{FixedLen, ByteLen, UShortLen, TypeId, fixedLen, byteLen, uShortLen, longLen, daten, xml, udt, ssVariant, Column, both, lengthFits, keepsRule}
+use Rattle.format.specs.Descriptor.{FixedLen, ByteLen, UShortLen, TypeId, fixedLen, byteLen, uShortLen, longLen, daten, xml, udt, ssVariant, Column, lengthFits, keepsRule}
 use Rattle.format.specs.Value.{Value, Family, fixedWidth, lengthByte, content, fixedFamily, byteLenFamily, uShortLenFamily, familyOf, readFamily, readValue, encodeFamily, encode}
 use Rattle.format.proofs.Number.{Bytes}
 use Rattle.format.proofs.Place.{past, no-took}
@@ -20,6 +20,7 @@ use Rattle.format.proofs.Codec.{Codec}
 use Rattle.format.proofs.FixedWidth.{Fixed, fixed}
 use Rattle.format.proofs.LengthByte.{Listed, Told, listed}
 use Rattle.format.proofs.Content.{Held, held}
+use Rattle.format.proofs.DescriptorForm.{both-true}
 
 -- A value that fits a family under a declared length.
 abbrev pub Fits : ℕ → Option Family → Value → Type 0
@@ -80,14 +81,9 @@ sound n xml h = tt
 sound n udt h = tt
 sound n ssVariant h = tt
 
--- rule 6 says that the declared length fits its field
-first-of : (a b : Bool) → both a b ≡ true → a ≡ true
-first-of true b h = refl
-first-of false b h = h
-
 pub sound-column : (c : Column) → keepsRule c ≡ true → Sound (c .length) (familyOf (c .type))
 unfolding keepsRule
-sound-column c h = sound (c .length) (c .type) (first-of (lengthFits (c .type) (c .length)) _ h)
+sound-column c h = sound (c .length) (c .type) (both-true (lengthFits (c .type) (c .length)) _ h .0)
 
 pub family : (n : ℕ) (f : Option Family) → Sound n f → Codec (readFamily n f) (encodeFamily n f) (Fits n f) 0
 family n none t = record { again = λ v rest f. absurd f; fits = λ s v m b h. no-took notCarried v m h; short = λ s v m b h. no-took notCarried v m h }

@@ -1,11 +1,10 @@
 -- Rows both ways: document 01, "The refusals", "Walking and joining". A row is "the values of a column list, one after another, no token byte".
 use Prim.Native.Nat.{ℕ, zero, suc}
 use mathlib.Core.List.{List, [], _∷_, _++_}
-use mathlib.Core.Bool.{Bool, not}
+use mathlib.Core.Bool.{not}
 use lib.ListN.{length}
 use lib.Dec.{ltb, eqb}
-use Rattle.lists.specs.Pick.{pick}
-use Rattle.format.specs.Answer.{Answer, gives, refuses, Read, took, stops, rule, refuseIf, stopIf, thenRead, mapRead, andThen}
+use Rattle.format.specs.Answer.{Answer, gives, refuses, Read, took, rule, refuseIf, stopIf, thenRead, mapRead, andThen}
 use Rattle.format.specs.Number.{readLow}
 use Rattle.format.specs.Descriptor.{Column, readColumn}
 use Rattle.format.specs.Value.{Value, Given, readValue, writeValue, copiedOut}

@@ -5,11 +5,10 @@ use mathlib.Core.List.{List}
 use Prim.Native.Nat.{ℕ}
 use lib.Dec.{eqb}
 use Rattle.lists.specs.Pick.{pick}
-use Rattle.format.specs.Answer.{Answer, gives, refuses, Read, took, stops, readAt}
+use Rattle.format.specs.Answer.{Read, took, stops, readAt}
 use Rattle.format.specs.Header as H
 use Rattle.format.specs.Header.{readHeader}
 use Rattle.format.proofs.Decided.{Undoes, decided}
-use Rattle.wire.specs.Told.{refusalTold}
 use Rattle.wire.proofs.Decided.{refusalBack, refusal-undoes}
 use Rattle.header.specs.declared.PacketType.{PacketType}
 use Rattle.header.specs.declared.PacketType.the-variants as P

@@ -1,14 +1,14 @@
 -- What the definition of a header says once its tests are known: a header, or the refusal that comes first.
 -- Assumes nothing.
-use mathlib.Core.Path.{_≡_, refl, sym, ap, _∙_}
+use mathlib.Core.Path.{_≡_, refl}
 use mathlib.Core.List.{List}
 use mathlib.Core.Bool.{Bool, true, false}
-use Prim.Native.Nat.{ℕ, _+_, _<_, _≤_}
+use Prim.Native.Nat.{ℕ, _<_, _≤_}
 use native.Mathlib.Omega.{arith}
 use lib.ListN.{length, getD}
 use borrow.Author.Tests.{lt-ltb, le-ltb}
 use Rattle.lists.specs.Pick.{pick}
-use Rattle.format.specs.Answer.{Answer, gives, refuses, Read, took, stops, missing, unknown}
+use Rattle.format.specs.Answer.{gives, refuses, took, stops, missing, unknown}
 use Rattle.format.specs.Header.{listed, packetTypes, packetStatuses, headerOf, readHeader}
 use Rattle.header.specs.Told.{known}
 

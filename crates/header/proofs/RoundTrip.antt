@@ -2,12 +2,12 @@
 -- `header-back`: for every header with numbers of 16 bits, `readHeader (headerBytes (headerFields h) ++ rest) ≡ took (headerFields h) 8`.
 -- `header-forth`: for every eight bytes or more that read as a header f, `headerBytes f ≡ take 8 s`.
 -- Assumes nothing.
-use mathlib.Core.Path.{_≡_, refl, sym, ap, _∙_}
+use mathlib.Core.Path.{_≡_, refl, ap, _∙_}
 use mathlib.Core.List.{List, [], _∷_, _++_}
-use mathlib.Core.Bool.{Bool, true, false}
+use mathlib.Core.Bool.{true}
 use Prim.Native.Nat.{ℕ, zero, suc, _+_, _<_, _≤_, _^_}
 use native.Mathlib.Omega.{arith}
-use lib.ListN.{length, getD, take, drop}
+use lib.ListN.{length, take}
 use Rattle.format.specs.Answer.{took}
 use Rattle.format.specs.Number.{highNat, highBytes}
 use Rattle.format.specs.Header as H

@@ -1,13 +1,13 @@
 -- Writing one list after another at the front of a room: the laws that a writing loop needs.
 -- Assumes nothing.
-use Prim.Native.Nat.{ℕ, suc, _+_, _-_, _≤_, _<_, min}
+use Prim.Native.Nat.{ℕ, suc, _+_, _-_, _≤_, _<_}
 use mathlib.Core.Path.{_≡_, refl, sym, ap, _∙_}
 use mathlib.Core.List.{List, [], _∷_, _++_, append-assoc}
 use native.Mathlib.Omega.{arith}
 use native.Mathlib.Nat.{add-zero, zero-add, add-suc, suc-add}
 use native.Mathlib.Numerals.{add-one}
-use lib.ListN.{length, getD, set, take, drop, length-append, length-take, length-drop, take-append-drop}
-use lib.Seq.{set-split, set-at, drop-cons, take-suc, drop-append-add, take-add, drop-drop, take-at, drop-at, length-take-le, take-append-seam, drop-append-seam, take-length, drop-length, sets, sets-eq}
+use lib.ListN.{length, getD, set, take, drop, length-append, length-take, length-drop}
+use lib.Seq.{set-split, set-at, drop-cons, take-suc, drop-append-add, take-add, drop-drop, take-at, drop-at, length-take-le, take-append-seam, drop-append-seam, take-length, sets, sets-eq}
 use Rattle.lists.specs.Put.{putAt, front}
 
 -- a run of stores is a list put at a place
@@ -63,14 +63,6 @@ grown j out out₀ c rest new o m l h k z e d n =
 
 pub front-end : (j : List ℕ) (o : ℕ) (out : List ℕ) → o ≤ length j → drop o j ≡ [] → front j o out ≡ j ++ drop (length j) out
 front-end j o out h d = front-all j o out (omega (arith, simp length-drop at (ap length d)))
-
-pub put-one : (out : List ℕ) (i b : ℕ) → i < length out → set out i b ≡ putAt out i (b ∷ [])
-unfolding putAt
-put-one out i b h = set-split out i b h ∙ rw (add-one i)
-
-pub put-next : (c d out : List ℕ) → length c ≤ length out → putAt (c ++ drop (length c) out) (length c) d ≡ (c ++ d) ++ drop (length (c ++ d)) out
-unfolding putAt
-put-next c d out h = simp (take-append-seam, drop-append-add, drop-drop, length-append, append-assoc)
 
 -- one element more of a list that is copied
 pub front-turn : (j out out₀ : List ℕ) (i : ℕ) → i < length j → length j ≤ length out₀ → out ≡ front j i out₀ → set out i (getD j i 0) ≡ front j (i + 1) out₀

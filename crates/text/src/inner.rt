@@ -1,5 +1,6 @@
 // Leaves that ask something of their caller: the rest of a character whose first byte has chosen its
-// row, a unit that is there, and a scalar value or a whole text written into room that it fits.
+// row, a unit that is there, and a scalar value or a whole text written into room that it fits. For
+// this crate alone.
 ghost use mathlib.Core.Path.{_≡_};
 ghost use Prim.Native.Nat.{_+_, _-_, _≤_, _<_};
 ghost use lib.ListN.{length, getD, drop};
@@ -25,7 +26,7 @@ fn six_at(s: &[u8], at: usize) -> u32
 }
 
 // The rest of a character from its second byte on, behind the first byte a.
-pub fn rest8_at(s: &[u8], at: usize, a: u32, row: Row) -> CharRead
+pub(crate) fn rest8_at(s: &[u8], at: usize, a: u32, row: Row) -> CharRead
     requires { ⌜ Led a (rowTold row) ⌝ }
     ensures { λ r. ⌜ charTold r ≡ second8 (rowTold row) a (drop at (now (s .entry))) ⌝ }
 {
@@ -50,7 +51,7 @@ pub fn rest8_at(s: &[u8], at: usize, a: u32, row: Row) -> CharRead
 }
 
 // The unit at a place, low byte first.
-pub fn unit_at(s: &[u8], at: usize) -> u32
+pub(crate) fn unit_at(s: &[u8], at: usize) -> u32
     requires { ⌜ at + 2 ≤ length (now s) ⌝ }
     ensures { λ r. ⌜ (r ≡ unit (drop at (now (s .entry)))) × (r < 0x10000) ⌝ }
 {
@@ -58,7 +59,7 @@ pub fn unit_at(s: &[u8], at: usize) -> u32
 }
 
 // The rest of a character behind the high surrogate a: the low surrogate at a place.
-pub fn pair_at(s: &[u8], at: usize, a: u32) -> CharRead
+pub(crate) fn pair_at(s: &[u8], at: usize, a: u32) -> CharRead
     requires { ⌜ (at ≤ length (now s)) × (0xD800 ≤ a) × (a ≤ 0xDBFF) ⌝ }
     ensures { λ r. ⌜ charTold r ≡ pair16 a (drop at (now (s .entry))) ⌝ }
 {
@@ -82,7 +83,7 @@ fn put_unit(out: &mut [u8], o: usize, n: u32)
 }
 
 // The units of a scalar value at a place, and how many bytes they are.
-pub fn put_char16(out: &mut [u8], o: usize, c: u32) -> usize
+pub(crate) fn put_char16(out: &mut [u8], o: usize, c: u32) -> usize
     requires { ⌜ o + length (utf16 c) ≤ length (now out) ⌝ }
     ensures size { λ r. ⌜ r ≡ length (utf16 c) ⌝ }
     ensures room { λ _. ⌜ now (out .exit) ≡ putAt (now (out .entry)) o (utf16 c) ⌝ }
@@ -97,7 +98,7 @@ pub fn put_char16(out: &mut [u8], o: usize, c: u32) -> usize
 }
 
 // The bytes of a scalar value in UTF-8 at a place, and how many they are.
-pub fn put_char8(out: &mut [u8], o: usize, c: u32) -> usize
+pub(crate) fn put_char8(out: &mut [u8], o: usize, c: u32) -> usize
     requires { ⌜ (c ≤ 0x10FFFF) × (o + length (utf8 c) ≤ length (now out)) ⌝ }
     ensures size { λ r. ⌜ r ≡ length (utf8 c) ⌝ }
     ensures room { λ _. ⌜ now (out .exit) ≡ putAt (now (out .entry)) o (utf8 c) ⌝ }
@@ -125,7 +126,7 @@ pub fn put_char8(out: &mut [u8], o: usize, c: u32) -> usize
 }
 
 // A text in UTF-8 as UTF-16LE, at the front of the room.
-pub fn put_utf16(s: &[u8], out: &mut [u8])
+pub(crate) fn put_utf16(s: &[u8], out: &mut [u8])
     requires { ⌜ Fitting (textIn (now s)) (length (now out)) ⌝ }
     ensures { λ _. ⌜ now (out .exit) ≡ roomAfter (textIn (now (s .entry))) (now (out .entry)) ⌝ }
 {
@@ -146,7 +147,7 @@ pub fn put_utf16(s: &[u8], out: &mut [u8])
 }
 
 // A text in UTF-16LE as UTF-8, at the front of the room.
-pub fn put_utf8(u: &[u8], out: &mut [u8])
+pub(crate) fn put_utf8(u: &[u8], out: &mut [u8])
     requires { ⌜ Fitting (textOut (now u)) (length (now out)) ⌝ }
     ensures { λ _. ⌜ now (out .exit) ≡ roomAfter (textOut (now (u .entry))) (now (out .entry)) ⌝ }
 {

@@ -2,12 +2,12 @@
 -- Assumes nothing.
 use mathlib.Core.Path.{_≡_, refl, ap, sym, _∙_}
 use mathlib.Core.List.{List, [], _∷_, _++_}
-use Prim.Native.Nat.{ℕ, zero, suc, _+_, _*_, _-_, _/_, _%_, _^_, _<_, _≤_}
-use native.Mathlib.Nat.{pow-suc, pow-le-pow-right, mod-lt, add-zero, add-suc, suc-add, le-refl, pow-zero}
+use Prim.Native.Nat.{ℕ, suc, _+_, _*_, _-_, _/_, _%_, _^_, _<_, _≤_}
+use native.Mathlib.Nat.{pow-suc, pow-le-pow-right, add-zero, add-suc, suc-add, le-refl}
 use native.Mathlib.Numerals.{add-one}
 use native.Mathlib.Omega.{arith}
-use lib.Dec.{lit≤, lit<}
-use lib.ListN.{length, getD, take, drop, set, length-append, length-set}
+use lib.Dec.{lit<}
+use lib.ListN.{length, getD, take, drop, set}
 use lib.Seq.{drop-cons, sets, set-comm}
 use Rattle.format.specs.Number.{lowNat, lowBytes, highFrom, highBytes}
 use Rattle.format.proofs.Number.{length-high}

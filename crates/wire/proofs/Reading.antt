@@ -1,15 +1,15 @@
 -- What the readers at a place answer: the byte or the number where it is there, refusal 1 where it is not.
 -- Assumes nothing.
 use mathlib.Core.Path.{_≡_, refl, ap, sym, _∙_}
-use mathlib.Core.List.{List, [], _∷_}
+use mathlib.Core.List.{List, []}
 use mathlib.Core.Bool.{Bool, true, false}
-use Prim.Native.Nat.{ℕ, suc, _+_, _-_, _<_, _≤_}
+use Prim.Native.Nat.{ℕ, _+_, _-_, _<_, _≤_}
 use native.Mathlib.Omega.{arith}
 use lib.ListN.{length, getD, take, drop, length-drop, drop-of-length-le}
 use lib.Seq.{drop-cons}
 use lib.Dec.{ltb, lit≤}
 use borrow.Author.Tests.{lt-ltb, le-ltb, ltb-true, ltb-false}
-use Rattle.format.specs.Answer.{Refusal, missing, Read, took, stops, stopIf, mapRead, readAt}
+use Rattle.format.specs.Answer.{missing, Read, took, stops, stopIf, mapRead, readAt}
 use Rattle.format.specs.Number.{readByte, readLow, readHigh, readBytes, lowNat, highNat}
 use Rattle.wire.specs.declared.Width.{Width}
 use Rattle.wire.specs.declared.Width.the-variants as Widths

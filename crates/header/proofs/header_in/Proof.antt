@@ -1,9 +1,8 @@
 -- `header::header_in` meets its contract: what the type and the status were read as says which case of the definition holds. Assumes nothing.
-use mathlib.Core.Path.{_≡_, sym, ap, _∙_}
-use Prim.Native.Nat.{ℕ, _+_}
+use mathlib.Core.Path.{sym, ap, _∙_}
 use lib.ListN.{getD}
 use borrow.Author.Needs.{needs}
-use Rattle.format.specs.Answer.{Read, further}
+use Rattle.format.specs.Answer.{further}
 use Rattle.format.specs.Header as H
 use Rattle.format.specs.Header.{packetTypes, packetStatuses}
 use Rattle.header.specs.Told.{typeTold, statusTold}

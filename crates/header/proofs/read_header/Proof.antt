@@ -1,5 +1,5 @@
 -- `header::read_header` meets its contract: behind the end refusal 1, else the header that the rest begins with. Assumes nothing.
-use mathlib.Core.Path.{_≡_, sym, ap, _∙_}
+use mathlib.Core.Path.{sym, ap, _∙_}
 use mathlib.Core.List.{List}
 use Prim.Native.Nat.{ℕ}
 use borrow.Author.Needs.{needs}

@@ -1,8 +1,7 @@
 -- `replay::run` is safe and ends: the measure is the number of turns left, and the buffers keep their lengths. Assumes nothing.
-use mathlib.Core.Path.{_≡_, refl, _∙_}
+use mathlib.Core.Path.{_≡_, refl}
 use borrow.Author.Needs.{needs}
 use lib.ListN.{length}
-use native.Mathlib.Omega.{arith}
 use Rattle.replay.proofs.run.Statement.{statement}
 use Rattle.replay.proofs.run.Tie as tie
 

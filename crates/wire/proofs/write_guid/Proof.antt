@@ -1,6 +1,5 @@
 -- `wire::write_guid` meets its contract: sixteen bytes, or refusal 4 and the room as it was. Assumes nothing.
-use mathlib.Core.Path.{_≡_, ap, _∙_}
-use lib.ListN.{length}
+use mathlib.Core.Path.{_∙_}
 use native.Mathlib.Omega.{arith}
 use Rattle.lists.proofs.Front.{sets-front}
 use Rattle.wire.specs.Told.{guidWire, writeGuid}

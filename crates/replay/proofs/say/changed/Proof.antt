@@ -1,7 +1,7 @@
 -- `replay::say::changed` is safe and ends: the count is at most the place. Assumes nothing.
 use Prim.Native.Nat.{_≤_, _-_}
 use native.Mathlib.Omega.{arith}
-use lib.ListN.{length, length-set}
+use lib.ListN.{length}
 use borrow.Author.Needs.{needs}
 use mathlib.Core.Logic.{⊎-elim}
 use Rattle.replay.proofs.say.changed.Statement.{statement}

@@ -1,5 +1,5 @@
 -- `replay::say::chunk` is safe: what was spelled stands inside the text. Assumes nothing.
-use mathlib.Core.Path.{sym, _∙_}
+use mathlib.Core.Path.{sym}
 use native.Mathlib.Omega.{arith}
 use lib.Seq.{length-take-le}
 use borrow.Author.Needs.{needs}

@@ -1,6 +1,5 @@
 -- `replay::say::digits` is safe and ends: each chunk ends further on. Assumes nothing.
 use Prim.Native.Nat.{_≤_, _-_}
-use native.Mathlib.Omega.{arith}
 use lib.ListN.{length}
 use borrow.Author.Needs.{needs}
 use Rattle.replay.proofs.say.digits.Statement.{statement}

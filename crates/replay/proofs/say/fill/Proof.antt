@@ -1,9 +1,8 @@
 -- `replay::say::fill` is safe and ends: stores keep the length. Assumes nothing.
 use Prim.Native.Nat.{_≤_, _-_}
-use native.Mathlib.Omega.{arith}
 use lib.ListN.{length, length-set}
 use borrow.Author.Needs.{needs}
-use mathlib.Core.Path.{_≡_, refl}
+use mathlib.Core.Path.{_≡_}
 use Rattle.replay.proofs.say.fill.Statement.{statement}
 use Rattle.replay.proofs.say.fill.Tie as tie
 

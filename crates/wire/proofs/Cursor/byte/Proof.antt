@@ -1,6 +1,4 @@
 -- `wire::Cursor::byte` meets its contract: inside, the rest begins with the byte; at the end or behind it, there is none. Assumes nothing.
-use Prim.Native.Nat.{_+_}
-use native.Mathlib.Omega.{arith}
 use borrow.Author.Needs.{needs}
 use Rattle.wire.proofs.Reading.{byte-there, byte-missing}
 use Rattle.wire.proofs.Cursor.byte.Statement.{statement}

@@ -1,5 +1,5 @@
 -- `wire::Cursor::guid` meets its contract: the GUID where all sixteen bytes are there, refusal 1 where one is not. Assumes nothing.
-use Prim.Native.Nat.{_+_, _≤_, _<_}
+use Prim.Native.Nat.{_+_, _≤_}
 use mathlib.Core.Path.{sym, _∙_}
 use native.Mathlib.Omega.{arith}
 use lib.ListN.{length}

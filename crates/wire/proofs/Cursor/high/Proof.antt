@@ -1,10 +1,12 @@
 -- `wire::Cursor::high` meets its contract: the number where all its bytes are there, refusal 1 where one is not. Assumes nothing.
-use Prim.Native.Nat.{ℕ, _+_, _≤_, _<_, _^_}
-use mathlib.Core.Path.{_≡_, sym, ap, _∙_}
+use Prim.Native.Nat.{_+_, _≤_, _<_}
+use mathlib.Core.Path.{_≡_, sym, _∙_}
 use native.Mathlib.Omega.{arith}
-use lib.ListN.{length}
+use lib.ListN.{length, take, drop}
 use borrow.Author.Tests.{leb-true, leb-false}
 use borrow.Author.Needs.{needs}
+use Rattle.format.specs.Answer.{took}
+use Rattle.format.specs.Number.{highNat}
 use Rattle.wire.specs.Told.{widthOf}
 use Rattle.wire.proofs.Reading.{high-there, high-missing, width-le}
 use Rattle.wire.proofs.Cursor.high.Statement.{statement}
@@ -29,10 +31,11 @@ add-t8 c = omega (arith, there (c .before))
 returns : tie.Need-returns
 returns c =
     let a = c .before .before .before .before .before .args in
-    let e : c .before .before .before .bytes .result ≡ widthOf (a .w) = c .before .before .before .bytes .ensures in
-    let f = rw e at (c .high-at .ensures .0) in
+    let b = c .before .before .before .bytes .result in
+    let e : b ≡ widthOf (a .w) = c .before .before .before .bytes .ensures in
+    let f : took (c .high-at .result) (a .self .at + b) ≡ took (highNat (take (widthOf (a .w)) (drop (a .self .at) (a .s .now)))) (a .self .at + widthOf (a .w)) = rw (c .high-at .ensures .0, e) in
     let l : a .self .at + widthOf (a .w) ≤ length (a .s .now) = omega (arith, e, there (c .before)) in
-    (rw (e, f) (high-there (a .s .now) (a .self .at) (widthOf (a .w)) l), rw e at (c .high-at .ensures .1))
+    (f ∙ high-there (a .s .now) (a .self .at) (widthOf (a .w)) l, rw e at (c .high-at .ensures .1))
 
 returns-2 : tie.Need-returns-2
 returns-2 c =

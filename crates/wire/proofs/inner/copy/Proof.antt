@@ -1,9 +1,9 @@
 -- `wire::inner::copy` meets its contract. The invariant: the first i bytes of the source stand at the front, and the rest is as it was. Assumes nothing.
-use mathlib.Core.Path.{_≡_, refl, ap, sym, _∙_}
-use Prim.Native.Nat.{ℕ, _+_, _-_, _≤_, _<_}
+use mathlib.Core.Path.{_≡_, refl, _∙_}
+use Prim.Native.Nat.{_-_, _≤_}
 use native.Mathlib.Omega.{arith}
 use borrow.Author.Needs.{needs}
-use lib.ListN.{length, take, drop, length-set}
+use lib.ListN.{length, length-set}
 use Rattle.lists.specs.Put.{front}
 use Rattle.lists.proofs.Front.{front-none, front-turn, front-all}
 use Rattle.wire.proofs.inner.copy.Statement.{statement}

@@ -1,11 +1,8 @@
 -- `wire::inner::guid_at` meets its contract: three numbers low byte first and eight bytes high byte first are the GUID's two numbers. Assumes nothing.
-use mathlib.Core.Path.{_≡_, sym, ap, _∙_}
-use mathlib.Core.List.{List}
-use Prim.Native.Nat.{ℕ, _+_, _≤_}
+use Prim.Native.Nat.{_≤_}
 use native.Mathlib.Omega.{arith}
-use lib.ListN.{length, take, drop, length-drop}
+use lib.ListN.{length, drop, length-drop}
 use lib.Seq.{drop-drop}
-use Rattle.format.specs.Number.{lowNat, highNat}
 use borrow.Author.Needs.{needs}
 use Rattle.wire.proofs.GuidLaws.{guid-read}
 use Rattle.wire.proofs.inner.guid_at.Statement.{statement}

@@ -1,11 +1,11 @@
 -- `wire::inner::high_at` meets its contract. The invariant: n, with the bytes not yet read behind it, is the number. Assumes nothing.
-use mathlib.Core.Path.{_≡_, refl, _∙_, sym}
-use Prim.Native.Nat.{ℕ, suc, _+_, _*_, _-_, _≤_, _<_, _^_}
+use mathlib.Core.Path.{_≡_, _∙_}
+use Prim.Native.Nat.{_+_, _*_, _-_, _≤_, _<_, _^_}
 use native.Mathlib.Omega.{arith}
 use native.Mathlib.Nat.{sub-self, sub-zero, add-zero}
 use borrow.Author.Needs.{needs}
 use lib.Dec.{lit<}
-use lib.ListN.{length, take, drop}
+use lib.ListN.{take, drop}
 use Rattle.format.specs.Number.{highFrom, highNat}
 use Rattle.wire.proofs.Laws.{high-turn, high-turn-lt}
 use Rattle.wire.proofs.inner.high_at.Statement.{statement}

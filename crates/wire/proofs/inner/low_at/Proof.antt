@@ -1,11 +1,11 @@
 -- `wire::inner::low_at` meets its contract. The invariant: n is the number in the bytes from at + i up to at + w. Assumes nothing.
-use mathlib.Core.Path.{_≡_, refl, sym, ap, _∙_}
-use Prim.Native.Nat.{ℕ, suc, _+_, _*_, _-_, _≤_, _<_, _^_}
+use mathlib.Core.Path.{_≡_, _∙_}
+use Prim.Native.Nat.{_+_, _-_, _≤_, _<_, _^_}
 use native.Mathlib.Omega.{arith}
 use native.Mathlib.Nat.{sub-self, sub-zero, add-zero}
 use lib.Dec.{lit<}
 use borrow.Author.Needs.{needs}
-use lib.ListN.{length, getD, take, drop}
+use lib.ListN.{take, drop}
 use Rattle.format.specs.Number.{lowNat}
 use Rattle.wire.proofs.Laws.{low-turn, low-turn-lt, low-turn-fits}
 use Rattle.wire.proofs.inner.low_at.Statement.{statement}

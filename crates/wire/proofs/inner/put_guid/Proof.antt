@@ -1,9 +1,4 @@
 -- `wire::inner::put_guid` meets its contract: the four runs of stores are one run, the GUID's bytes in wire order. Assumes nothing.
-use mathlib.Core.Path.{_≡_, ap, _∙_}
-use mathlib.Core.List.{List}
-use Prim.Native.Nat.{ℕ, _+_, _/_}
-use lib.Seq.{sets}
-use Rattle.format.specs.Number.{lowBytes, highBytes}
 use borrow.Author.Needs.{needs}
 use Rattle.wire.proofs.GuidLaws.{guid-written}
 use Rattle.wire.proofs.inner.put_guid.Statement.{statement}

@@ -1,6 +1,6 @@
 -- `wire::inner::put_low` meets its contract. The invariant: what is left to store, stored, gives what is promised. Assumes nothing.
-use mathlib.Core.Path.{_≡_, refl, sym, ap, _∙_}
-use Prim.Native.Nat.{ℕ, suc, _+_, _*_, _-_, _≤_, _<_, _^_}
+use mathlib.Core.Path.{_≡_, refl, _∙_}
+use Prim.Native.Nat.{_+_, _-_, _≤_}
 use native.Mathlib.Omega.{arith}
 use native.Mathlib.Nat.{sub-self, sub-zero, add-zero}
 use borrow.Author.Needs.{needs}
