@@ -31,7 +31,7 @@ typeBack n =
     (pick (eqb n 14) P.TransactionManagerRequest
     (pick (eqb n 16) P.Tds7Login
     (pick (eqb n 17) P.Sspi
-    P.PreLogin)))))))))
+    P.Prelogin)))))))))
 
 type-undoes : Undoes typeByte typeBack
 type-undoes P.SqlBatch = refl
@@ -44,7 +44,7 @@ type-undoes P.FederatedAuthenticationToken = refl
 type-undoes P.TransactionManagerRequest = refl
 type-undoes P.Tds7Login = refl
 type-undoes P.Sspi = refl
-type-undoes P.PreLogin = refl
+type-undoes P.Prelogin = refl
 
 abbrev statusBack : ℕ → PacketStatus
 statusBack n = pick (eqb n 0) S.Normal (pick (eqb n 1) S.EndOfMessage (pick (eqb n 3) S.IgnoreEvent (pick (eqb n 8) S.ResetConnection S.ResetConnectionSkipTran)))

@@ -33,7 +33,7 @@ type-listed P.FederatedAuthenticationToken = refl
 type-listed P.TransactionManagerRequest = refl
 type-listed P.Tds7Login = refl
 type-listed P.Sspi = refl
-type-listed P.PreLogin = refl
+type-listed P.Prelogin = refl
 
 pub status-listed : (t : PacketStatus) → listed packetStatuses (statusByte t) ≡ true
 status-listed S.Normal = refl

@@ -30,7 +30,7 @@ typeByte P.FederatedAuthenticationToken = 8
 typeByte P.TransactionManagerRequest = 14
 typeByte P.Tds7Login = 16
 typeByte P.Sspi = 17
-typeByte P.PreLogin = 18
+typeByte P.Prelogin = 18
 
 abbrev pub statusByte : PacketStatus → ℕ
 statusByte S.Normal = 0

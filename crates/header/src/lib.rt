@@ -22,7 +22,7 @@ pub enum PacketType {
     TransactionManagerRequest,
     Tds7Login,
     Sspi,
-    PreLogin,
+    Prelogin,
 }
 
 // MS-TDS 2.2.3.1.2, the five that the Rust has.
@@ -72,7 +72,7 @@ pub fn type_byte(t: PacketType) -> u8
         PacketType::TransactionManagerRequest => 14,
         PacketType::Tds7Login => 16,
         PacketType::Sspi => 17,
-        PacketType::PreLogin => 18,
+        PacketType::Prelogin => 18,
     }
 }
 
@@ -90,7 +90,7 @@ pub fn type_of(b: u8) -> TypeRead
         14 => TypeRead::Type(PacketType::TransactionManagerRequest),
         16 => TypeRead::Type(PacketType::Tds7Login),
         17 => TypeRead::Type(PacketType::Sspi),
-        18 => TypeRead::Type(PacketType::PreLogin),
+        18 => TypeRead::Type(PacketType::Prelogin),
         _ => TypeRead::Unknown,
     }
 }

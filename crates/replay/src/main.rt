@@ -1,12 +1,11 @@
 // Answers the frames of cases/PROTOCOL.md on standard input, a line for each.
-mod fields;
-mod numbers;
-mod packet;
-mod say;
-mod texts;
-mod types;
-mod values;
-
+use replay_column::types;
+use replay_column::values;
+use replay_packet::numbers;
+use replay_packet::packet;
+use replay_packet::texts;
+use replay_say::fields;
+use replay_say::say;
 use wire::Cursor;
 use wire::NumberRead;
 use wire::Width;

@@ -1,31 +1,15 @@
-// UTF-8 to UTF-16LE and back. A first pass judges the text and finds the size, a second one writes.
-mod inner;
-mod utf16;
-mod utf8;
-
+// sizes and turns
 ghost use mathlib.Core.Path.{_≡_};
 ghost use lib.ListN.{length};
 ghost use Rattle.format.specs.Answer.{fitted, wrote, roomAfter};
 ghost use Rattle.format.specs.Text.{between, textIn, textOut};
 ghost use Rattle.wire.specs.Told.{wroteTold};
+use text_char::CharRead;
+use text_char::utf8;
+use text_char::utf16;
+use text_put::inner;
 use wire::Refusal;
 use wire::Wrote;
-
-// One character at a place: its scalar value and how many bytes it took.
-enum CharRead {
-    Char(u32, usize),
-    Refused(Refusal),
-}
-
-// Whether n lies from low up to high.
-fn within(low: u32, high: u32, n: u32) -> bool
-    ensures { λ r. ⌜ r ≡ between low high n ⌝ }
-{
-    if n < low {
-        return false;
-    }
-    n <= high
-}
 
 // How many bytes UTF-8 takes in UTF-16LE.
 pub fn utf16_size(s: &[u8]) -> Wrote

@@ -6,7 +6,7 @@ use Rattle.format.specs.Answer.{gives, wrote}
 use Rattle.format.specs.Text.{textOut}
 use Rattle.wire.specs.Told.{wroteTold}
 use Rattle.wire.proofs.Writing.{refused-before, sized-short}
-use Rattle.text.proofs.Sized.{sized-fits, sized-written}
+use Rattle.text_char.proofs.Sized.{sized-fits, sized-written}
 use Rattle.text.proofs.to_utf8.Statement.{statement}
 use Rattle.text.proofs.to_utf8.Tie as tie
 

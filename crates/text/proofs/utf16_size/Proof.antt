@@ -6,8 +6,8 @@ use lib.ListN.{length}
 use denote.Ref.{now}
 use borrow.Author.Needs.{needs}
 use Rattle.format.specs.Text.{char8, utf16, textIn}
-use Rattle.text.specs.Told.{charTold}
-use Rattle.text.proofs.Turns.{Stands, stands8, long8, Sizing, size-start, size-more, size-stop, size-end}
+use Rattle.text_char.specs.Told.{charTold}
+use Rattle.text_char.proofs.Turns.{Stands, stands8, long8, Sizing, size-start, size-more, size-stop, size-end}
 use Rattle.text.proofs.utf16_size.Statement.{statement}
 use Rattle.text.proofs.utf16_size.Tie as tie
 

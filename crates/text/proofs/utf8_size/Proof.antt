@@ -9,8 +9,8 @@ use Rattle.format.specs.Answer.{wrote}
 use Rattle.format.specs.Text.{char16, utf8}
 use Rattle.format.proofs.Number.{Bytes}
 use Rattle.format.proofs.Text.{out-even, out-odd}
-use Rattle.text.specs.Told.{charTold}
-use Rattle.text.proofs.Turns.{Stands, stands16, long16, Sizing, size-start, size-more, size-stop, size-end}
+use Rattle.text_char.specs.Told.{charTold}
+use Rattle.text_char.proofs.Turns.{Stands, stands16, long16, Sizing, size-start, size-more, size-stop, size-end}
 use Rattle.text.proofs.utf8_size.Statement.{statement}
 use Rattle.text.proofs.utf8_size.Tie as tie
 

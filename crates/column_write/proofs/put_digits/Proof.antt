@@ -1,0 +1,56 @@
+-- `column_write::put_digits` meets its contract: two stores, or none. Assumes nothing.
+use mathlib.Core.Path.{sym, _∙_}
+use native.Mathlib.Omega.{arith}
+use mathlib.Core.List.{[], _∷_}
+use native.Mathlib.Nat.{add-zero}
+use Rattle.lists.proofs.Front.{sets-more}
+use borrow.Author.Needs.{needs}
+use Rattle.column_write.proofs.put_digits.Statement.{statement}
+use Rattle.column_write.proofs.put_digits.Tie as tie
+
+has-digits-requires : tie.Need-has-digits-requires
+has-digits-requires c κs = search needs
+
+put-byte-requires : tie.Need-put-byte-requires
+put-byte-requires c κs =
+    let q = rw (sym (c .before .before .has-digits .ensures) ∙ c .before .if1 .taken) at (c .before .before .before .before .pre) in
+    omega (arith, q)
+
+add-put-byte : tie.Need-add-put-byte
+add-put-byte c = search needs
+
+put-byte-requires-2 : tie.Need-put-byte-requires-2
+put-byte-requires-2 c κs =
+    let q = rw (sym (c .before .before .before .before .before .before .has-digits .ensures) ∙ c .before .before .before .before .before .if1 .taken) at (c .before .before .before .before .before .before .before .before .pre) in
+    omega (arith, q)
+
+add-result : tie.Need-add-result
+add-result c = search needs
+
+same-length : tie.Need-same-length
+same-length c = search needs
+
+returns : tie.Need-returns
+returns c =
+    let a = c .before .before .before .before .before .before .before .before .before .before .before .args in
+    let h = sym (c .before .before .before .before .before .before .before .before .before .has-digits .ensures) ∙ c .before .before .before .before .before .before .before .before .if1 .taken in
+    (rw (h, c .before .before .put-byte2 .ensures, c .before .before .before .before .before .before .put-byte .ensures) (sets-more (a .out .now) (a .at) (a .precision ∷ []) (a .scale ∷ [])), rw h)
+
+returns-2 : tie.Need-returns-2
+returns-2 c =
+    let a = c .before .before .before .args in
+    let h = sym (c .before .has-digits .ensures) ∙ c .if1 .left in
+    (rw h, rw h (sym (add-zero (a .at))))
+
+pub put-digits-spec : {M : Type 1} → statement M
+put-digits-spec =
+    tie.close
+    (tie.spec
+    has-digits-requires
+    put-byte-requires
+    add-put-byte
+    put-byte-requires-2
+    add-result
+    same-length
+    returns
+    returns-2)

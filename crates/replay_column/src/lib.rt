@@ -1,0 +1,3 @@
+// replay_column
+pub mod types;
+pub mod values;

@@ -1,0 +1,4 @@
+// replay_packet
+pub mod numbers;
+pub mod packet;
+pub mod texts;

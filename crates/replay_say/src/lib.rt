@@ -1,0 +1,3 @@
+// replay_say
+pub mod fields;
+pub mod say;

@@ -1,0 +1,165 @@
+-- `text_char::inner::rest8_at` meets its contract: byte by byte, as table 3-7's row has them. Assumes nothing.
+use mathlib.Core.Path.{_≡_, sym, _∙_}
+use mathlib.Core.Bool.{true}
+use Prim.Native.Nat.{_+_}
+use native.Mathlib.Omega.{arith}
+use lib.ListN.{drop}
+use denote.Ref.{now}
+use borrow.Author.Needs.{needs}
+use borrow.Author.Tests.{not-true, not-false}
+use Rattle.text_char.specs.Told.{rowTold, standsIn}
+use Rattle.text_char.proofs.Places.{stands-true, second-not, rest-two, third-not, rest-three, fourth-not, rest-four}
+use Rattle.text_char.proofs.inner.rest8_at.Statement.{statement}
+use Rattle.text_char.proofs.inner.rest8_at.Tie as tie
+
+-- the second byte stands, then the third, then the fourth
+second-stands : (c : tie.Else1) → let a = c .before .before .before .args in standsIn (a .row .low) (a .row .high) (drop (a .at) (now (a .s))) ≡ true
+second-stands c = sym (c .before .stands .ensures) ∙ not-false _ (c .if1 .left)
+
+third-stands : (c : tie.Else3) → let a = c .before .before .before .before .before .before .before .before .before .args in standsIn 0x80 0xBF (drop (a .at + 1) (now (a .s))) ≡ true
+third-stands c = sym (c .before .stands2 .ensures) ∙ not-false _ (c .if3 .left)
+
+fourth-stands : (c : tie.Else5) → let a = c .before .before .before .before .before .before .before .before .before .before .before .before .before .before .args in standsIn 0x80 0xBF (drop (a .at + 2) (now (a .s))) ≡ true
+fourth-stands c = sym (c .before .stands3 .ensures) ∙ not-false _ (c .if5 .left)
+
+-- neither none nor one: two follow the second
+last-two : (c : tie.Else4) → c .before .before .before .before .before .before .before .before .before .before .before .before .args .row .more ≡ 2
+last-two c = omega (arith, c .if4 .left, c .before .before .before .before .before .if2 .left, c .before .before .before .before .before .before .before .before .before .before .before .before .pre)
+
+stands-requires : tie.Need-stands-requires
+stands-requires c κs = search needs
+
+returns : tie.Need-returns
+returns c =
+    let a = c .before .before .before .args in
+    sym (second-not (now (a .s)) (a .at) (a .a) (rowTold (a .row)) (sym (c .before .stands .ensures) ∙ not-true _ (c .if1 .taken)))
+
+sub-two : tie.Need-sub-two
+sub-two c = search needs
+
+mul-two : tie.Need-mul-two
+mul-two c = search needs
+
+six-at-requires : tie.Need-six-at-requires
+six-at-requires c κs =
+    let a = c .before .before .before .before .args in
+    omega (arith, stands-true (now (a .s)) (a .at) (a .row .low) (a .row .high) (second-stands (c .before)), c .before .before .before .before .pre)
+
+add-two : tie.Need-add-two
+add-two c = search needs
+
+returns-2 : tie.Need-returns-2
+returns-2 c =
+    let e = c .before .before .before .before in
+    let a = e .before .before .before .args in
+    rest-two (now (a .s)) (a .at) (a .a) _ (rowTold (a .row)) (c .before .before .six-at .ensures .0) (second-stands e) (c .if2 .taken)
+
+add-stands : tie.Need-add-stands
+add-stands c =
+    let e = c .before .before .before .before in
+    let a = e .before .before .before .args in
+    omega (arith, stands-true (now (a .s)) (a .at) (a .row .low) (a .row .high) (second-stands e), e .before .before .before .good)
+
+stands-requires-2 : tie.Need-stands-requires-2
+stands-requires-2 c κs = search needs
+
+returns-3 : tie.Need-returns-3
+returns-3 c =
+    let e = c .before .before .before .before .before .before in
+    let a = e .before .before .before .args in
+    third-not (now (a .s)) (a .at) (a .a) _ (rowTold (a .row)) (c .before .before .before .before .six-at .ensures .0) (second-stands e)
+    (omega (arith, c .before .before .if2 .left)) (sym (c .before .stands2 .ensures) ∙ not-true _ (c .if3 .taken))
+
+mul-three : tie.Need-mul-three
+mul-three c = search needs
+
+add-six-at : tie.Need-add-six-at
+add-six-at c =
+    let a = c .before .before .before .before .before .before .before .before .before .args in
+    omega (arith, stands-true (now (a .s)) (a .at + 1) 0x80 0xBF (third-stands c), c .before .before .before .before .before .before .before .before .before .good)
+
+six-at-requires-2 : tie.Need-six-at-requires-2
+six-at-requires-2 c κs =
+    let a = c .before .before .before .before .before .before .before .before .before .args in
+    stands-true (now (a .s)) (a .at + 1) 0x80 0xBF (third-stands c)
+
+add-three : tie.Need-add-three
+add-three c = search needs
+
+returns-4 : tie.Need-returns-4
+returns-4 c =
+    let e = c .before .before .before in
+    let a = e .before .before .before .before .before .before .before .before .before .args in
+    rest-three (now (a .s)) (a .at) (a .a) _ (rowTold (a .row)) (e .before .before .before .before .six-at .ensures .0)
+    (second-stands (e .before .before .before .before .before .before)) _ (c .before .before .six-at2 .ensures .0) (third-stands e) (c .if4 .taken)
+
+add-stands-2 : tie.Need-add-stands-2
+add-stands-2 c =
+    let e = c .before .before .before in
+    let a = e .before .before .before .before .before .before .before .before .before .args in
+    omega (arith, stands-true (now (a .s)) (a .at + 1) 0x80 0xBF (third-stands e), e .before .before .before .before .before .before .before .before .before .good)
+
+stands-requires-3 : tie.Need-stands-requires-3
+stands-requires-3 c κs = search needs
+
+returns-5 : tie.Need-returns-5
+returns-5 c =
+    let f = c .before .before in
+    let e = f .before .before .before in
+    let a = e .before .before .before .before .before .before .before .before .before .args in
+    fourth-not (now (a .s)) (a .at) (a .a) _ (rowTold (a .row)) (e .before .before .before .before .six-at .ensures .0)
+    (second-stands (e .before .before .before .before .before .before)) _ (f .before .before .six-at2 .ensures .0) (third-stands e) (last-two f)
+    (sym (c .before .stands3 .ensures) ∙ not-true _ (c .if5 .taken))
+
+mul-t11 : tie.Need-mul-t11
+mul-t11 c = search needs
+
+add-six-at-2 : tie.Need-add-six-at-2
+add-six-at-2 c =
+    let z = c .before .before .before .before .before .before .before .before .before .before .before .before .before .before in
+    omega (arith, stands-true (now (z .args .s)) (z .args .at + 2) 0x80 0xBF (fourth-stands c), z .good)
+
+six-at-requires-3 : tie.Need-six-at-requires-3
+six-at-requires-3 c κs =
+    let a = c .before .before .before .before .before .before .before .before .before .before .before .before .before .before .args in
+    stands-true (now (a .s)) (a .at + 2) 0x80 0xBF (fourth-stands c)
+
+add-t12 : tie.Need-add-t12
+add-t12 c = search needs
+
+returns-6 : tie.Need-returns-6
+returns-6 c =
+    let f = c .before .before .before in
+    let e = f .before .before .before in
+    let a = e .before .before .before .before .before .before .before .before .before .args in
+    rest-four (now (a .s)) (a .at) (a .a) _ (rowTold (a .row)) (e .before .before .before .before .six-at .ensures .0)
+    (second-stands (e .before .before .before .before .before .before)) _ (f .before .before .six-at2 .ensures .0) (third-stands e) _ (c .six-at3 .ensures .0) (last-two f)
+    (fourth-stands (c .before))
+
+pub rest8-at-spec : {M : Type 1} → statement M
+rest8-at-spec =
+    tie.close
+    (tie.spec
+    stands-requires
+    returns
+    sub-two
+    mul-two
+    six-at-requires
+    add-two
+    returns-2
+    add-stands
+    stands-requires-2
+    returns-3
+    mul-three
+    add-six-at
+    six-at-requires-2
+    add-three
+    returns-4
+    add-stands-2
+    stands-requires-3
+    returns-5
+    mul-t11
+    add-six-at-2
+    six-at-requires-3
+    add-t12
+    returns-6)

@@ -1,0 +1,110 @@
+-- `text_put::inner::put_utf8` meets its contract. The invariant: the bytes written stand at the front, and what is still to write is what the text comes to from here on.
+-- Assumes nothing.
+use mathlib.Core.Path.{_≡_, refl, sym, ap, _∙_}
+use Prim.Native.Nat.{_-_, _≤_}
+use native.Mathlib.Omega.{arith}
+use lib.ListN.{length}
+use denote.Ref.{now}
+use borrow.Author.Needs.{needs}
+use Rattle.format.specs.Answer.{gives}
+use Rattle.format.specs.Text.{char16, utf8, textOut}
+use Rattle.lists.proofs.Front.{front-none}
+use Rattle.format.proofs.Number.{Bytes}
+use Rattle.format.proofs.Text.{out-gives}
+use Rattle.text_char.specs.Told.{charTold}
+use Rattle.text_char.proofs.Sized.{given, fits-given, after-given}
+use Rattle.text_char.proofs.Turns.{Stands, stands16, last16, Writing, write-room, write-more, write-stop, write-end}
+use Rattle.text_put.proofs.inner.put_utf8.Statement.{statement}
+use Rattle.text_put.proofs.inner.put_utf8.Tie as tie
+
+abbrev Inv-loop : tie.InvT-loop
+Inv-loop u out₀ at₀ o₀ out at o = Writing char16 utf8 u (given (textOut u)) out₀ out at o
+
+abbrev μ-loop : tie.MeasureT-loop
+μ-loop u out₀ at₀ o₀ out at o = length u - at
+
+-- the bytes to write, and the room for them
+fits : (c : tie.After-slice-known Inv-loop μ-loop) → let a = c .before .before .args in let t = textOut (now (a .u)) in (t ≡ gives (given t)) × (length (given t) ≤ length (now (a .out)))
+fits c = let a = c .before .before .args in fits-given (textOut (now (a .u))) (length (now (a .out))) (c .before .before .pre)
+
+bytes : (c : tie.At-loop Inv-loop μ-loop) → Bytes (now (c .before .before .before .args .u))
+bytes c i = omega (arith, c .before .before .shared-slice-known .given i)
+
+-- the character that was read
+read : (c : tie.After-t Inv-loop μ-loop) → let l = c .before .before .before .before in Stands char16 (now (l .before .before .before .args .u)) (l .loop .at) (c .t .given .0 .0) (c .t .given .0 .1 .0)
+read c = stands16 (bytes (c .before .before .before .before)) (c .before .before .before .loop-test .taken) (sym (ap charTold (c .t .given .1)) ∙ c .before .before .char16-at .ensures)
+
+loop-holds : tie.Need-loop-holds Inv-loop μ-loop
+loop-holds c =
+    let u = now (c .before .before .args .u) in
+    record { inside = search needs; within = search needs; same = refl; holds = front-none _ _; left = out-gives u (given (textOut u)) (fits c .0) }
+
+char16-at-requires : tie.Need-char16-at-requires Inv-loop μ-loop
+char16-at-requires c κs = search needs
+
+enum-known-t : tie.Need-enum-known-t Inv-loop μ-loop
+enum-known-t c = search needs
+
+put-char8-requires : tie.Need-put-char8-requires Inv-loop μ-loop
+put-char8-requires c κs =
+    let w = c .before .before in
+    let l = w .before .before .before .before in
+    (last16 (bytes l) (read w), write-room (l .loop .inv) (read w) (fits (l .before) .1))
+
+loop-again : tie.Need-loop-again Inv-loop μ-loop
+loop-again c =
+    let w = c .before .before .before .before .before in
+    let l = w .before .before .before .before in
+    let p = c .before .before .put-char8 in
+    write-more (l .loop .inv) (read w) (fits (l .before) .1) (p .ensures .0) (p .ensures .1)
+
+add-o : tie.Need-add-o Inv-loop μ-loop
+add-o c =
+    let l = c .before .before .before .before .before .before .before .before .before in
+    omega (arith, loop-again c .within, fits (l .before) .1, l .before .before .before .good)
+
+add-at : tie.Need-add-at Inv-loop μ-loop
+add-at c = omega (arith, read (c .before .before .before .before .before), c .before .before .before .before .before .before .before .before .before .before .before .before .good)
+
+loop-less : tie.Need-loop-less Inv-loop μ-loop
+loop-less c = omega (arith, read (c .before .before .before .before .before))
+
+enum-known-t-2 : tie.Need-enum-known-t-2 Inv-loop μ-loop
+enum-known-t-2 c = search needs
+
+same-length : tie.Need-same-length Inv-loop μ-loop
+same-length c = search needs
+
+returns : tie.Need-returns Inv-loop μ-loop
+returns c =
+    let i = c .before .before .before .before in
+    write-stop (i .before .loop .inv) (i .loop-test .taken) (sym (ap charTold (c .before .t2 .given .1)) ∙ c .before .before .before .char16-at .ensures)
+
+same-length-2 : tie.Need-same-length-2 Inv-loop μ-loop
+same-length-2 c = search needs
+
+returns-2 : tie.Need-returns-2 Inv-loop μ-loop
+returns-2 c =
+    let l = c .before in
+    let a = l .before .before .before .args in
+    write-end (l .loop .inv) (c .loop-test .left) ∙ after-given (textOut (now (a .u))) (now (a .out)) (fits (l .before) .0)
+
+pub put-utf8-spec : {M : Type 1} → statement M
+put-utf8-spec =
+    tie.close
+    (tie.spec
+    Inv-loop
+    μ-loop
+    loop-holds
+    char16-at-requires
+    enum-known-t
+    put-char8-requires
+    add-o
+    add-at
+    loop-less
+    loop-again
+    enum-known-t-2
+    same-length
+    returns
+    same-length-2
+    returns-2)

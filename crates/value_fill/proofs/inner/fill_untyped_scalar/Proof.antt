@@ -1,0 +1,80 @@
+-- `value_fill::inner::fill_untyped_scalar` meets its contract: the stores are one run, type byte, length, count and value. Assumes nothing.
+use mathlib.Core.Path.{ap, _∙_}
+use native.Mathlib.Omega.{arith}
+use mathlib.Core.List.{_∷_}
+use Rattle.format.specs.Descriptor.{byteLenByte}
+use Rattle.format.specs.Scalar.{width, kindOf, scalarBytes}
+use Rattle.format.specs.Value.{untypedType}
+use Rattle.value_kind.specs.Told.{kindTold, scalarTold}
+use Rattle.value_kind.proofs.FillLaws.{count-is, filled}
+use Rattle.value_kind.proofs.ScalarLaws.{length-bytes, width-most, untyped-bytes}
+use borrow.Author.Needs.{needs}
+use Rattle.value_fill.proofs.inner.fill_untyped_scalar.Statement.{statement}
+use Rattle.value_fill.proofs.inner.fill_untyped_scalar.Tie as tie
+
+kind-of-requires : tie.Need-kind-of-requires
+kind-of-requires c κs = search needs
+
+bytes-of-requires : tie.Need-bytes-of-requires
+bytes-of-requires c κs = search needs
+
+cast-n : tie.Need-cast-n
+cast-n c = record { fits = omega (arith, c .bytes-of .ensures, width-most (kindTold (c .before .kind-of .result))) }
+
+untyped-byte-requires : tie.Need-untyped-byte-requires
+untyped-byte-requires c κs = search needs
+
+put-byte-requires : tie.Need-put-byte-requires
+put-byte-requires c κs =
+    let s = c .before .before .before .before .before in
+    let v = scalarTold (s .args .s) in
+    let n = count-is _ _ (byteLenByte (untypedType (kindOf v)) ∷ width (kindOf v) ∷ width (kindOf v) ∷ scalarBytes v) (s .pre) (untyped-bytes (s .args .s)) in
+    omega (arith, n)
+
+put-byte-requires-2 : tie.Need-put-byte-requires-2
+put-byte-requires-2 c κs =
+    let s = c .before .before .before .before .before .before .before .before .before in
+    let v = scalarTold (s .args .s) in
+    let n = count-is _ _ (byteLenByte (untypedType (kindOf v)) ∷ width (kindOf v) ∷ width (kindOf v) ∷ scalarBytes v) (s .pre) (untyped-bytes (s .args .s)) in
+    omega (arith, n, c .before .before .before .put-byte .kept .0)
+
+put-byte-requires-3 : tie.Need-put-byte-requires-3
+put-byte-requires-3 c κs =
+    let s = c .before .before .before .before .before .before .before .before .before .before .before .before .before in
+    let v = scalarTold (s .args .s) in
+    let n = count-is _ _ (byteLenByte (untypedType (kindOf v)) ∷ width (kindOf v) ∷ width (kindOf v) ∷ scalarBytes v) (s .pre) (untyped-bytes (s .args .s)) in
+    omega (arith, n, c .before .before .before .before .before .before .before .put-byte .kept .0, c .before .before .before .put-byte2 .kept .0)
+
+put-scalar-requires : tie.Need-put-scalar-requires
+put-scalar-requires c κs =
+    let s = c .before .before .before .before .before .before .before .before .before .before .before .before .before .before .before .before .before in
+    let v = scalarTold (s .args .s) in
+    let n = count-is _ _ (byteLenByte (untypedType (kindOf v)) ∷ width (kindOf v) ∷ width (kindOf v) ∷ scalarBytes v) (s .pre) (untyped-bytes (s .args .s)) in
+    omega (arith, n, length-bytes (s .args .s), c .before .before .before .before .before .before .before .before .before .before .before .put-byte .kept .0, c .before .before .before .before .before .before .before .put-byte2 .kept .0, c .before .before .before .put-byte3 .kept .0)
+
+same-length : tie.Need-same-length
+same-length c = search needs
+
+returns : tie.Need-returns
+returns c =
+    let s = c .before .before .before .before .before .before .before .before .before .before .before .before .before .before .before .before .before .before .before .before in
+    let v = scalarTold (s .args .s) in
+    let n = count-is _ _ (byteLenByte (untypedType (kindOf v)) ∷ width (kindOf v) ∷ width (kindOf v) ∷ scalarBytes v) (s .pre) (untyped-bytes (s .args .s)) in
+    let w = c .before .before .before .before .before .before .before .before .before .before .before .before .before .before .before .before .before .bytes-of .ensures ∙ ap width (c .before .before .before .before .before .before .before .before .before .before .before .before .before .before .before .before .before .before .kind-of .ensures) in
+    let t = c .before .before .before .before .before .before .before .before .before .before .before .before .before .before .before .untyped-byte .ensures ∙ ap (λ k. byteLenByte (untypedType k)) (c .before .before .before .before .before .before .before .before .before .before .before .before .before .before .before .before .before .before .kind-of .ensures) in
+    filled _ (s .args .out .now) _ _ (s .pre) (untyped-bytes (s .args .s)) (rw (c .before .before .put-scalar .ensures, c .before .before .before .before .before .before .put-byte3 .ensures, c .before .before .before .before .before .before .before .before .before .before .put-byte2 .ensures, c .before .before .before .before .before .before .before .before .before .before .before .before .before .before .put-byte .ensures, w, t))
+
+pub fill-untyped-scalar-spec : {M : Type 1} → statement M
+fill-untyped-scalar-spec =
+    tie.close
+    (tie.spec
+    kind-of-requires
+    bytes-of-requires
+    cast-n
+    untyped-byte-requires
+    put-byte-requires
+    put-byte-requires-2
+    put-byte-requires-3
+    put-scalar-requires
+    same-length
+    returns)

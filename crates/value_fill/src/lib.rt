@@ -1,0 +1,2 @@
+// filling
+pub mod inner;

@@ -1,0 +1,3 @@
+// sizes
+pub mod content;
+pub mod size;
