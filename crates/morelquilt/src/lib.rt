@@ -1,0 +1,58 @@
+// The codec: every call that a program outside this repository may use, with the types in its
+// signature, under one name. docs/PUBLIC.md has each call's contract; the code stands in the crates
+// named here.
+
+// What every call answers with, and a place in the input whose methods read a byte, a number or a
+// GUID.
+pub use wire::ByteRead;
+pub use wire::Cursor;
+pub use wire::Guid;
+pub use wire::GuidRead;
+pub use wire::NumberRead;
+pub use wire::Refusal;
+pub use wire::Width;
+pub use wire::Wrote;
+pub use wire::write_guid;
+
+// The packet header.
+pub use header::Header;
+pub use header::HeaderRead;
+pub use header::PacketStatus;
+pub use header::PacketType;
+pub use header::read_header;
+pub use header::write_header;
+
+// The prelogin message.
+pub use prelogin::Encryption;
+pub use prelogin::Prelogin;
+pub use prelogin::write_prelogin;
+
+// Text between UTF-8 and UTF-16LE.
+pub use text::to_utf8;
+pub use text::to_utf16;
+pub use text::utf8_size;
+pub use text::utf16_size;
+
+// TYPE_INFO, a column's descriptor.
+pub use column_read::read_column;
+pub use column_type::ByteLen;
+pub use column_type::Collation;
+pub use column_type::Column;
+pub use column_type::ColumnRead;
+pub use column_type::FixedLen;
+pub use column_type::LongLen;
+pub use column_type::Name;
+pub use column_type::Schema;
+pub use column_type::TypeId;
+pub use column_type::UShortLen;
+pub use column_write::column_size;
+pub use column_write::write_column;
+
+// One column value.
+pub use value_kind::Scalar;
+pub use value_kind::Span;
+pub use value_kind::Value;
+pub use value_write::untyped_size;
+pub use value_write::value_size;
+pub use value_write::write_untyped;
+pub use value_write::write_value;
