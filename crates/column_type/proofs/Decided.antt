@@ -32,7 +32,8 @@ use Rattle.column_type.specs.declared.Schema.the-variants as S
 use Rattle.column_type.specs.declared.Column.{Column}
 use Rattle.column_type.specs.declared.ColumnRead.{ColumnRead}
 use Rattle.column_type.specs.declared.ColumnRead.the-variants as CR
-use Rattle.column_type.specs.Told.{fixedTold, byteLenTold, uShortLenTold, longLenTold, typeTold, collationTold, nameTold, schemaTold, columnTold, columnReadTold, nameBytes, NameIn, SchemaFrom, NamesFrom}
+use Rattle.column_type.specs.Told.{fixedTold, byteLenTold, uShortLenTold, longLenTold, typeTold, collationTold, nameTold, schemaTold}
+use Rattle.column_type.specs.Told.{columnTold, columnReadTold, nameBytes, NameIn, SchemaFrom, NamesFrom}
 use Rattle.column_type.proofs.ReadLaws.{name-inside}
 use Rattle.column_type.proofs.RuleLaws.{length-name}
 
@@ -158,7 +159,8 @@ named x y u v p q = rw (p, q)
 abbrev column : TypeId → ℕ → ℕ → ℕ → Collation → Schema → Column
 column t n p x l m = record { ty = t; length = n; precision = p; scale = x; collation = l; schema = m }
 
-made : (t t' : TypeId) (n n' p p' x x' : ℕ) (l l' : Collation) (m m' : Schema) → t ≡ t' → n ≡ n' → p ≡ p' → x ≡ x' → l ≡ l' → m ≡ m' → column t n p x l m ≡ column t' n' p' x' l' m'
+made : (t t' : TypeId) (n n' p p' x x' : ℕ) (l l' : Collation) (m m' : Schema) → t ≡ t' → n ≡ n' → p ≡ p' → x ≡ x' → l ≡ l' → m ≡ m' →
+    column t n p x l m ≡ column t' n' p' x' l' m'
 made t t' n n' p p' x x' l l' m m' a b c d e f = rw (a, b, c, d, e, f)
 
 abbrev cursor : ℕ → Cursor
@@ -189,7 +191,9 @@ module _ (s : List ℕ) where
       let y : nameTold s b ≡ nameTold s f = ap (λ (k : D.Schema). k .owner) w in
       let z : nameTold s c ≡ nameTold s g = ap (λ (k : D.Schema). k .collection) w in
       let p = same-name a d (h .0 ∙ sym (i .0)) (omega (arith, h .1, h .2, h .3)) (omega (arith, i .1, i .2, i .3)) x in
-      let q = same-name b f (h .1 ∙ (ap (λ (n : Name). n .start + 2 * n .units + 1) p ∙ sym (i .1))) (omega (arith, h .2, h .3)) (omega (arith, i .2, i .3)) y in
+      let q =
+      same-name b f (h .1 ∙ (ap (λ (n : Name). n .start + 2 * n .units + 1) p ∙ sym (i .1))) (omega (arith, h .2, h .3))
+      (omega (arith, i .2, i .3)) y in
       let r = same-name c g (h .2 ∙ (ap (λ (n : Name). n .start + 2 * n .units + 2) q ∙ sym (i .2))) (h .3) (i .3) z in
       rw (p, q, r)
 
@@ -199,9 +203,12 @@ module _ (s : List ℕ) where
       let n : c .length ≡ d .length = ap (λ (k : D.Column). k .length) e in
       let p : c .precision ≡ d .precision = ap (λ (k : D.Column). k .precision) e in
       let x : c .scale ≡ d .scale = ap (λ (k : D.Column). k .scale) e in
-      let l = decided collationTold collationBack collation-undoes (c .collation) (d .collation) (collationTold (d .collation)) (ap (λ (k : D.Column). k .collation) e) refl in
+      let l =
+      decided collationTold collationBack collation-undoes (c .collation) (d .collation) (collationTold (d .collation))
+      (ap (λ (k : D.Column). k .collation) e) refl in
       let m = same-schema place (c .schema) (d .schema) h i (ap (λ (k : D.Column). k .schema) e) in
-      made (c .ty) (d .ty) (c .length) (d .length) (c .precision) (d .precision) (c .scale) (d .scale) (c .collation) (d .collation) (c .schema) (d .schema) t n p x l m
+      made (c .ty) (d .ty) (c .length) (d .length) (c .precision) (d .precision) (c .scale) (d .scale) (c .collation) (d .collation) (c .schema)
+      (d .schema) t n p x l m
 
 -- what the contract of `column_read::read_column` says of an answer
 pub record Reads (s : List ℕ) (at : ℕ) (r : ColumnRead) : Type 0 where

@@ -7,7 +7,8 @@ use Prim.Native.Nat.{ℕ, _≤_}
 use lib.ListN.{length}
 use Rattle.format.specs.Answer.{Answer, gives, refuses, unknown, notCarried, took, stops, thenRead, readAt}
 use Rattle.format.specs.Number.{readByte, readLow}
-use Rattle.format.specs.Descriptor.{TypeId, FixedLen, ByteLen, UShortLen, LongLen, fixedLen, byteLen, uShortLen, longLen, daten, xml, udt, ssVariant, Column, plain, datenLength, typeOf, readDigits, readCollation, readSchema, readFields, readTyped, readType}
+use Rattle.format.specs.Descriptor.{TypeId, FixedLen, ByteLen, UShortLen, LongLen, fixedLen, byteLen, uShortLen, longLen, daten, xml, udt, ssVariant}
+use Rattle.format.specs.Descriptor.{Column, plain, datenLength, typeOf, readDigits, readCollation, readSchema, readFields, readTyped, readType}
 use Rattle.format.proofs.Place.{at-left, at-stops}
 
 module _ (t : TypeId) (s : List ℕ) (at : ℕ) where

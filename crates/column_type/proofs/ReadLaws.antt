@@ -55,6 +55,7 @@ pub names-told : (s : List ℕ) (a b c : Name) → NameIn s a → NameIn s b →
 names-told s a b c h i j = rw (name-inside s a h, name-inside s b i, name-inside s c j)
 
 -- the third name, behind two that stand where they should
-pub third-names : (s : List ℕ) (a b : Name) (place : ℕ) (r : ColumnRead) → b .start ≡ a .start + 2 * a .units + 1 → place ≡ b .start + 2 * b .units + 2 → ThirdFrom s a b place r → NamesFrom s (a .start) r
+pub third-names : (s : List ℕ) (a b : Name) (place : ℕ) (r : ColumnRead) → b .start ≡ a .start + 2 * a .units + 1 →
+    place ≡ b .start + 2 * b .units + 2 → ThirdFrom s a b place r → NamesFrom s (a .start) r
 third-names s a b place (CR.Column c next) h i t = rw (t .1) (refl, h, t .2 ∙ i, t .3)
 third-names s a b place (CR.Refused e) h i t = tt

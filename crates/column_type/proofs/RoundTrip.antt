@@ -20,15 +20,19 @@ use Rattle.column_type.specs.declared.ColumnRead.{ColumnRead}
 use Rattle.column_type.specs.declared.ColumnRead.the-variants as CR
 use Rattle.column_type.specs.Told.{columnTold, columnReadTold}
 
-pub read-written : (s : List ℕ) (at : ℕ) (c : Column) (next : Cursor) → Bytes s → columnReadTold s (CR.Column c next) ≡ readAt readColumn s at → oddMarker (drop at s) ≡ false →
+pub read-written : (s : List ℕ) (at : ℕ) (c : Column) (next : Cursor) → Bytes s → columnReadTold s (CR.Column c next) ≡ readAt readColumn s at →
+    oddMarker (drop at s) ≡ false →
     writeColumn (columnTold s c) ≡ gives (take (next .at - at) (drop at s))
 read-written s at c next b h o =
     let t = took-at readColumn s at (columnTold s c) (next .at) (sym h) in
     let e : next .at - at ≡ t .1 = omega (arith, t .3) in
     rw e (written-again (drop at s) (columnTold s c) (t .1) (bytes-drop at s b) (t .2) o)
 
-pub written-read : (names : List ℕ) (c : Column) (b rest : List ℕ) (r : ColumnRead) → writeColumn (columnTold names c) ≡ gives b → columnReadTold (b ++ rest) r ≡ readAt readColumn (b ++ rest) 0 →
+pub written-read : (names : List ℕ) (c : Column) (b rest : List ℕ) (r : ColumnRead) → writeColumn (columnTold names c) ≡ gives b →
+    columnReadTold (b ++ rest) r ≡ readAt readColumn (b ++ rest) 0 →
     columnReadTold (b ++ rest) r ≡ took (columnTold names c) (length b)
 written-read names c b rest r h e =
     let i : 0 ≤ length (b ++ rest) = omega arith in
-    e ∙ (at-took readColumn (b ++ rest) 0 (columnTold names c) (length b) i (again (columnTold names c) b rest h) ∙ ap (took (columnTold names c)) (zero-add (length b)))
+    e ∙
+    (at-took readColumn (b ++ rest) 0 (columnTold names c) (length b) i (again (columnTold names c) b rest h) ∙ ap (took (columnTold names c))
+    (zero-add (length b)))

@@ -43,4 +43,5 @@ module _ (s : List ℕ) (n : Name) where
       let l = length-name h in
       let e : eqb (length (nameBytes s n) % 2) 0 ≡ true = eq-eqb (length (nameBytes s n) % 2) 0 (omega arith) in
       let f : length (nameBytes s n) / 2 ≡ n .units = omega arith in
-      ap (λ (k : ℕ). ltb k (256 ^ w)) (sym f) ∙ (ap (λ (b : Bool). both b (ltb (length (nameBytes s n) / 2) (256 ^ w))) (sym e) ∙ ap (nameFits w) (sym (name-inside s n h)))
+      ap (λ (k : ℕ). ltb k (256 ^ w)) (sym f) ∙
+      (ap (λ (b : Bool). both b (ltb (length (nameBytes s n) / 2) (256 ^ w))) (sym e) ∙ ap (nameFits w) (sym (name-inside s n h)))

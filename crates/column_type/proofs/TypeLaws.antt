@@ -18,7 +18,8 @@ among-append : (xs ys : List TypeId) (n : ℕ) → among (xs ++ ys) n ≡ orElse
 among-append [] ys n = refl
 among-append (x ∷ xs) ys n = go (eqb n (typeByte x)) (among-append xs ys n)
   where
-    go : (b : Bool) → among (xs ++ ys) n ≡ orElse (among xs n) (among ys n) → pick b (gives x) (among (xs ++ ys) n) ≡ orElse (pick b (gives x) (among xs n)) (among ys n)
+    go : (b : Bool) → among (xs ++ ys) n ≡ orElse (among xs n) (among ys n) →
+        pick b (gives x) (among (xs ++ ys) n) ≡ orElse (pick b (gives x) (among xs n)) (among ys n)
     go true h = refl
     go false h = h
 
@@ -31,7 +32,13 @@ module _ (n : ℕ) where
   in-first t h = all-types ∙ ap (λ (a : Answer TypeId). orElse a (orElse (among byteLenTypes n) (among otherTypes n))) h
 
   pub in-second : (t : TypeId) → among fixedTypes n ≡ refuses unknown → among byteLenTypes n ≡ gives t → typeOf n ≡ gives t
-  in-second t h k = all-types ∙ (ap (λ (a : Answer TypeId). orElse a (orElse (among byteLenTypes n) (among otherTypes n))) h ∙ ap (λ (a : Answer TypeId). orElse a (among otherTypes n)) k)
+  in-second t h k =
+      all-types ∙
+      (ap (λ (a : Answer TypeId). orElse a (orElse (among byteLenTypes n) (among otherTypes n))) h ∙
+      ap (λ (a : Answer TypeId). orElse a (among otherTypes n)) k)
 
   pub in-third : among fixedTypes n ≡ refuses unknown → among byteLenTypes n ≡ refuses unknown → typeOf n ≡ among otherTypes n
-  in-third h k = all-types ∙ (ap (λ (a : Answer TypeId). orElse a (orElse (among byteLenTypes n) (among otherTypes n))) h ∙ ap (λ (a : Answer TypeId). orElse a (among otherTypes n)) k)
+  in-third h k =
+      all-types ∙
+      (ap (λ (a : Answer TypeId). orElse a (orElse (among byteLenTypes n) (among otherTypes n))) h ∙
+      ap (λ (a : Answer TypeId). orElse a (among otherTypes n)) k)

@@ -13,7 +13,8 @@ use borrow.Author.Tests.{ltb-true, ltb-false}
 use Rattle.format.specs.Answer.{Answer, gives, refuses, rule, notCarried, wrote}
 use Rattle.format.specs.Number.{lowBytes}
 use Rattle.format.specs.Descriptor as D
-use Rattle.format.specs.Descriptor.{typeByte, both, nameFits, namesFit, keepsRule, isDescribed, lengthWidth, hasDigits, digitsBytes, collationBytes, nameBytes, schemaBytes, columnBytes, writeColumn}
+use Rattle.format.specs.Descriptor.{typeByte, both, nameFits, namesFit, keepsRule, isDescribed, lengthWidth, hasDigits, digitsBytes, collationBytes}
+use Rattle.format.specs.Descriptor.{nameBytes, schemaBytes, columnBytes, writeColumn}
 use Rattle.format.proofs.Answer.{no-gives}
 use Rattle.format.proofs.Number.{length-low}
 use Rattle.format.proofs.DescriptorForm.{both-true, written}
@@ -105,7 +106,8 @@ length-width D.ssVariant = lit≤ tt
 
 pub length-column : (k : D.Column) →
     length (columnBytes k)
-    ≡ 1 + lengthWidth (k .type) + length (digitsBytes (hasDigits (k .type)) (k .precision) (k .scale)) + length (collationBytes (k .collation)) + length (schemaBytes (k .type) (k .schema))
+    ≡ 1 + lengthWidth (k .type) + length (digitsBytes (hasDigits (k .type)) (k .precision) (k .scale)) + length (collationBytes (k .collation)) +
+    length (schemaBytes (k .type) (k .schema))
 unfolding columnBytes
 length-column k =
     let l = length-low (lengthWidth (k .type)) (k .length) in
@@ -127,11 +129,13 @@ module _ (k : D.Column) where
   not-described h i j = rw (h, i, j)
 
 -- what a size says: the rule was kept, and it is the size of the bytes
-pub sized : (k : D.Column) (n : ℕ) → gives n ≡ wrote (writeColumn k) → (writeColumn k ≡ gives (columnBytes k)) × (namesFit (k .schema) ≡ true) × (length (columnBytes k) ≡ n)
+pub sized : (k : D.Column) (n : ℕ) → gives n ≡ wrote (writeColumn k) →
+    (writeColumn k ≡ gives (columnBytes k)) × (namesFit (k .schema) ≡ true) × (length (columnBytes k) ≡ n)
 unfolding wrote
 sized k n h = go (writeColumn k) refl h
   where
-    go : (a : Answer (List ℕ)) → writeColumn k ≡ a → gives n ≡ wrote a → (writeColumn k ≡ gives (columnBytes k)) × (namesFit (k .schema) ≡ true) × (length (columnBytes k) ≡ n)
+    go : (a : Answer (List ℕ)) → writeColumn k ≡ a → gives n ≡ wrote a →
+        (writeColumn k ≡ gives (columnBytes k)) × (namesFit (k .schema) ≡ true) × (length (columnBytes k) ≡ n)
     go (gives b) e q = let w = written k b e in (e ∙ ap gives (sym (w .bytes)), w .fits, ap length (w .bytes) ∙ cc)
     go (refuses r) e q = no-gives r n (sym q)
 
@@ -139,7 +143,8 @@ sized k n h = go (writeColumn k) refl h
 
 -- a name behind its count
 pub name-stored : (out s : List ℕ) (at w : ℕ) (n : Name) → NameIn s n → at + (w + 2 * n .units) ≤ length out →
-    putAt (sets out at (lowBytes w (n .units))) (at + w) (take (n .start + 2 * n .units - n .start) (drop (n .start) s)) ≡ sets out at (nameBytes w (nameTold s n))
+    putAt (sets out at (lowBytes w (n .units))) (at + w) (take (n .start + 2 * n .units - n .start) (drop (n .start) s)) ≡ sets out at
+    (nameBytes w (nameTold s n))
 name-stored out s at w n h l =
     let d : n .start + 2 * n .units - n .start ≡ 2 * n .units = omega arith in
     let low = lowBytes w (n .units) in

@@ -89,13 +89,22 @@ typeReadTold TR.Unknown = refuses unknown
 
 -- the three runs of `types` that the code asks one after another
 abbrev pub fixedTypes : List D.TypeId
-fixedTypes = D.fixedLen D.FixedLen.null ∷ D.fixedLen D.FixedLen.int1 ∷ D.fixedLen D.FixedLen.bit ∷ D.fixedLen D.FixedLen.int2 ∷ D.fixedLen D.FixedLen.int4 ∷ D.fixedLen D.FixedLen.datetime4 ∷ D.fixedLen D.FixedLen.float4 ∷ D.fixedLen D.FixedLen.money ∷ D.fixedLen D.FixedLen.datetime ∷ D.fixedLen D.FixedLen.float8 ∷ D.fixedLen D.FixedLen.money4 ∷ D.fixedLen D.FixedLen.int8 ∷ []
+fixedTypes =
+    D.fixedLen D.FixedLen.null ∷ D.fixedLen D.FixedLen.int1 ∷ D.fixedLen D.FixedLen.bit ∷ D.fixedLen D.FixedLen.int2 ∷ D.fixedLen D.FixedLen.int4 ∷
+    D.fixedLen D.FixedLen.datetime4 ∷ D.fixedLen D.FixedLen.float4 ∷ D.fixedLen D.FixedLen.money ∷ D.fixedLen D.FixedLen.datetime ∷ D.fixedLen
+    D.FixedLen.float8 ∷ D.fixedLen D.FixedLen.money4 ∷ D.fixedLen D.FixedLen.int8 ∷ []
 
 abbrev pub byteLenTypes : List D.TypeId
-byteLenTypes = D.byteLen D.ByteLen.guid ∷ D.byteLen D.ByteLen.intn ∷ D.byteLen D.ByteLen.bitn ∷ D.byteLen D.ByteLen.decimaln ∷ D.byteLen D.ByteLen.numericn ∷ D.byteLen D.ByteLen.floatn ∷ D.byteLen D.ByteLen.moneyn ∷ D.byteLen D.ByteLen.datetimen ∷ D.byteLen D.ByteLen.timen ∷ D.byteLen D.ByteLen.datetime2 ∷ D.byteLen D.ByteLen.datetimeOffsetn ∷ []
+byteLenTypes =
+    D.byteLen D.ByteLen.guid ∷ D.byteLen D.ByteLen.intn ∷ D.byteLen D.ByteLen.bitn ∷ D.byteLen D.ByteLen.decimaln ∷ D.byteLen D.ByteLen.numericn ∷
+    D.byteLen D.ByteLen.floatn ∷ D.byteLen D.ByteLen.moneyn ∷ D.byteLen D.ByteLen.datetimen ∷ D.byteLen D.ByteLen.timen ∷ D.byteLen
+    D.ByteLen.datetime2 ∷ D.byteLen D.ByteLen.datetimeOffsetn ∷ []
 
 abbrev pub otherTypes : List D.TypeId
-otherTypes = D.uShortLen D.UShortLen.bigVarBin ∷ D.uShortLen D.UShortLen.bigVarChar ∷ D.uShortLen D.UShortLen.bigBinary ∷ D.uShortLen D.UShortLen.bigChar ∷ D.uShortLen D.UShortLen.nVarchar ∷ D.uShortLen D.UShortLen.nChar ∷ D.longLen D.LongLen.image ∷ D.longLen D.LongLen.text ∷ D.longLen D.LongLen.nText ∷ D.daten ∷ D.xml ∷ D.udt ∷ D.ssVariant ∷ []
+otherTypes =
+    D.uShortLen D.UShortLen.bigVarBin ∷ D.uShortLen D.UShortLen.bigVarChar ∷ D.uShortLen D.UShortLen.bigBinary ∷ D.uShortLen D.UShortLen.bigChar ∷
+    D.uShortLen D.UShortLen.nVarchar ∷ D.uShortLen D.UShortLen.nChar ∷ D.longLen D.LongLen.image ∷ D.longLen D.LongLen.text ∷ D.longLen
+    D.LongLen.nText ∷ D.daten ∷ D.xml ∷ D.udt ∷ D.ssVariant ∷ []
 
 -- the one type with a schema
 abbrev pub isXml : D.TypeId → Bool

@@ -58,7 +58,8 @@ module _ (char : List ℕ → Read ℕ) where
   scalars-drop (suc k) (b ∷ s) = scalars-drop k s
 
   -- one character, and the rest of the text
-  pub scalars-took : (s : List ℕ) (c n : ℕ) → 0 < length s → 0 < n → char s ≡ took c n → scalars char 0 s ≡ andThen (scalars char 0 (drop n s)) (λ cs. gives (c ∷ cs))
+  pub scalars-took : (s : List ℕ) (c n : ℕ) → 0 < length s → 0 < n → char s ≡ took c n →
+      scalars char 0 s ≡ andThen (scalars char 0 (drop n s)) (λ cs. gives (c ∷ cs))
   unfolding scalars
   scalars-took [] c n h p e = absurd (omega arith)
   scalars-took (b ∷ s) c zero h p e = absurd (omega arith)
@@ -72,11 +73,14 @@ module _ (char : List ℕ → Read ℕ) where
   scalars-stops (b ∷ s) e h q = rw q
 
   module _ (spell : ℕ → List ℕ) where
-    pub converted-took : (s : List ℕ) (c n : ℕ) → 0 < length s → 0 < n → char s ≡ took c n → converted char spell s ≡ andThen (converted char spell (drop n s)) (λ u. gives (spell c ++ u))
+    pub converted-took : (s : List ℕ) (c n : ℕ) → 0 < length s → 0 < n → char s ≡ took c n →
+        converted char spell s ≡ andThen (converted char spell (drop n s)) (λ u. gives (spell c ++ u))
     unfolding spelled
     converted-took s c n h p e = rw (scalars-took s c n h p e) (go (scalars char 0 (drop n s)))
       where
-        go : (a : Answer (List ℕ)) → andThen (andThen a (λ cs. gives (c ∷ cs))) (λ cs. gives (spelled spell cs)) ≡ andThen (andThen a (λ cs. gives (spelled spell cs))) (λ u. gives (spell c ++ u))
+        go : (a : Answer (List ℕ)) →
+            andThen (andThen a (λ cs. gives (c ∷ cs))) (λ cs. gives (spelled spell cs))
+            ≡ andThen (andThen a (λ cs. gives (spelled spell cs))) (λ u. gives (spell c ++ u))
         go (gives cs) = refl
         go (refuses e) = refl
 
@@ -104,7 +108,8 @@ abbrev pub Forth : (ℕ → List ℕ) → List ℕ → ℕ → ℕ → Type 0
 Forth spell s c n = Scalar c × (take n s ≡ spell c) × (n ≡ length (spell c))
 
 -- by bytes l in front of the text that are a scalar value's
-pub forth-is : (spell : ℕ → List ℕ) (s l t : List ℕ) (c n d k : ℕ) → s ≡ l ++ t → spell d ≡ l → length l ≡ k → took d k ≡ took c n → Scalar d → Forth spell s c n
+pub forth-is : (spell : ℕ → List ℕ) (s l t : List ℕ) (c n d k : ℕ) → s ≡ l ++ t → spell d ≡ l → length l ≡ k → took d k ≡ took c n → Scalar d →
+    Forth spell s c n
 forth-is spell s l t c n d k e u i h z =
     let v : d ≡ c = cc in
     let w : k ≡ n = cc in
@@ -134,7 +139,12 @@ module _ {char : List ℕ → Read ℕ} {spell : ℕ → List ℕ} {Text : List 
   spelled-back (c ∷ cs) h =
       let l : 0 < length (spell c ++ spelled spell cs) = omega (arith, length-append (spell c) (spelled spell cs), form .some c) in
       let e : drop (length (spell c)) (spell c ++ spelled spell cs) ≡ spelled spell cs = drop-append-seam (spell c) (spelled spell cs) in
-      rw (scalars-took char (spell c ++ spelled spell cs) c (length (spell c)) l (form .some c) (form .back c (spelled spell cs) (h .0)), e, spelled-back cs (h .1))
+      rw (
+        scalars-took char (spell c ++ spelled spell cs) c (length (spell c)) l (form .some c) (form .back c (spelled spell cs) (h .0)),
+        e,
+        spelled-back
+            cs (h .1),
+      )
 
   -- what is read of a text is spelled as the text, and its elements are scalar values
   abbrev Spells : List ℕ → List ℕ → Type 0

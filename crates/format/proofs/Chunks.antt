@@ -15,7 +15,8 @@ use lib.Dec.{ltb, eqb}
 use borrow.Author.Tests.{le-ltb, ltb-false, eqb-true, eqb-false, ne-eqb}
 use Rattle.lists.proofs.Split.{split}
 use Rattle.format.specs.Answer.{missing, long, sequence, Answer, gives, refuses}
-use Rattle.format.specs.Plp.{plpBound, Walk, aboveTotal, unlikeTotal, isOdd, endOf, chunkOf, lengthAt, takeHead, Walked, onHead, walkFrom, onJoin, joinFrom}
+use Rattle.format.specs.Plp.{plpBound, Walk, aboveTotal, unlikeTotal, isOdd, endOf, chunkOf, lengthAt, takeHead, Walked, onHead, walkFrom}
+use Rattle.format.specs.Plp.{onJoin, joinFrom}
 use Rattle.format.proofs.Answer.{no-gives, passed}
 
 -- ---- one head
@@ -29,7 +30,8 @@ behind w n = record { at = w .at + 4 + n; sum = w .sum + n; total = w .total; te
 
 pub data Head (s : List ℕ) (w : Walk) : Walk → Type 0 where
   last : w .at + 4 ≤ length s → lengthAt s (w .at) ≡ 0 → unlikeTotal (w .total) (w .sum) ≡ false → isOdd (w .text) (w .sum) ≡ false → Head s w (atEnd w)
-  chunk : (n : ℕ) → w .at + 4 + n ≤ length s → lengthAt s (w .at) ≡ n → 0 < n → w .sum + n ≤ plpBound → aboveTotal (w .total) (w .sum + n) ≡ false → Head s w (behind w n)
+  chunk : (n : ℕ) → w .at + 4 + n ≤ length s → lengthAt s (w .at) ≡ n → 0 < n → w .sum + n ≤ plpBound →
+      aboveTotal (w .total) (w .sum + n) ≡ false → Head s w (behind w n)
 
 module _ (s : List ℕ) (w : Walk) where
   is : {x y : Walk} → Head s w x → gives x ≡ gives y → Head s w y

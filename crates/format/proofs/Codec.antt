@@ -63,16 +63,19 @@ module _ {T : Type 0} (growth : T → ℕ) where
   growthAll (t ∷ ts) = growth t + growthAll ts
 
 -- what a row took: the first column's value, and what the others took of the rest
-row-took : {T X : Type 0} (read : T → List ℕ → Read X) (t : T) (ts : List T) (s : List ℕ) (vs : List X) (n : ℕ) → thenRead (read t) (consRead (readAll read ts)) s ≡ took vs n →
+row-took : {T X : Type 0} (read : T → List ℕ → Read X) (t : T) (ts : List T) (s : List ℕ) (vs : List X) (n : ℕ) →
+    thenRead (read t) (consRead (readAll read ts)) s ≡ took vs n →
     (v : X) × (ws : List X) × (k : ℕ) × (m : ℕ) × (read t s ≡ took v k) × (readAll read ts (drop k s) ≡ took ws m) × (v ∷ ws ≡ vs) × (k + m ≡ n)
 row-took read t ts s vs n h =
     let p = then-took (read t) (consRead (readAll read ts)) s vs n h in
     let q = map-took (_∷_ (p .0)) (readAll read ts (drop (p .1) s)) vs (p .2) (p .4) in
     (p .0, q .0, p .1, p .2, p .3, q .1, q .2, p .5)
 
-module _ {T X : Type 0} {read : T → List ℕ → Read X} {write : T → X → List ℕ} {Fit : T → X → Type 0} {growth : T → ℕ} (codec : (t : T) → Codec (read t) (write t) (Fit t) (growth t)) where
+module _ {T X : Type 0} {read : T → List ℕ → Read X} {write : T → X → List ℕ} {Fit : T → X → Type 0} {growth : T → ℕ}
+    (codec : (t : T) → Codec (read t) (write t) (Fit t) (growth t)) where
   -- the row's bytes, with anything behind them, read as the values and end where they end
-  pub row-again : (ts : List T) (vs : List X) (rest : List ℕ) → FitAll Fit ts vs → readAll read ts (writeAll write ts vs ++ rest) ≡ took vs (length (writeAll write ts vs))
+  pub row-again : (ts : List T) (vs : List X) (rest : List ℕ) → FitAll Fit ts vs →
+      readAll read ts (writeAll write ts vs ++ rest) ≡ took vs (length (writeAll write ts vs))
   unfolding readAll writeAll
   row-again [] [] rest f = refl
   row-again (t ∷ ts) (v ∷ vs) rest f =
@@ -89,7 +92,8 @@ module _ {T X : Type 0} {read : T → List ℕ → Read X} {write : T → X → 
       rw (← p .6) (codec t .fits s (p .0) (p .2) b (p .4), row-fits ts (drop (p .2) s) (p .1) (p .3) (bytes-drop (p .2) s b) (p .5))
 
   -- written again it is no longer, but for the columns' growth
-  pub row-short : (ts : List T) (s : List ℕ) (vs : List X) (n : ℕ) → Bytes s → readAll read ts s ≡ took vs n → length (writeAll write ts vs) ≤ n + growthAll growth ts
+  pub row-short : (ts : List T) (s : List ℕ) (vs : List X) (n : ℕ) → Bytes s → readAll read ts s ≡ took vs n →
+      length (writeAll write ts vs) ≤ n + growthAll growth ts
   unfolding readAll writeAll
   row-short [] s vs n b h = omega arith
   row-short (t ∷ ts) s vs n b h =

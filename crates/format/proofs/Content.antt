@@ -57,14 +57,17 @@ module _ (n : ℕ) (k : ContentKind) where
         let b : ltb n (length c) ≡ false = le-ltb n (length c) (f .0) in
         rw (a, b, f .1, bytes-again c rest)
 
-    short-again : (o : Option (List ℕ)) (rest : List ℕ) → Plps.Within (isText k) n o → thenRead (readLow 2) (readShort k n) (shortForm o ++ rest) ≡ took (contentValue k o) (length (shortForm o))
-    short-again none rest f = then-again (readLow 2) (readShort k n) (lowBytes 2 shortNull) [] rest shortNull Value.null (λ more. low-again 2 shortNull more (lit< tt)) refl
+    short-again : (o : Option (List ℕ)) (rest : List ℕ) → Plps.Within (isText k) n o →
+        thenRead (readLow 2) (readShort k n) (shortForm o ++ rest) ≡ took (contentValue k o) (length (shortForm o))
+    short-again none rest f =
+        then-again (readLow 2) (readShort k n) (lowBytes 2 shortNull) [] rest shortNull Value.null (λ more. low-again 2 shortNull more (lit< tt)) refl
     short-again (some c) rest f =
         then-again (readLow 2) (readShort k n) (lowBytes 2 (length c)) c rest (length c) (contentValue k (some c))
         (λ more. low-again 2 (length c) more (omega (arith, below c (f .0))))
         (short-read c rest f)
 
-    short-took : (s : List ℕ) (v : Value) (m : ℕ) → thenRead (readLow 2) (readShort k n) s ≡ took v m → (o : Option (List ℕ)) × (contentValue k o ≡ v) × Plps.Within (isText k) n o × (length (shortForm o) ≤ m)
+    short-took : (s : List ℕ) (v : Value) (m : ℕ) → thenRead (readLow 2) (readShort k n) s ≡ took v m →
+        (o : Option (List ℕ)) × (contentValue k o ≡ v) × Plps.Within (isText k) n o × (length (shortForm o) ≤ m)
     short-took s v m h =
         let p = then-took (readLow 2) (readShort k n) s v m h in
         let w = p .0 in
@@ -86,7 +89,8 @@ module _ (n : ℕ) (k : ContentKind) where
 
   -- as PLP
   module _ (e : eqb n plpMark ≡ true) where
-    plp-again : (o : Option (List ℕ)) (rest : List ℕ) → Plps.Within (isText k) plpBound o → readContent k n (plpBytes o ++ rest) ≡ took (contentValue k o) (length (plpBytes o))
+    plp-again : (o : Option (List ℕ)) (rest : List ℕ) → Plps.Within (isText k) plpBound o →
+        readContent k n (plpBytes o ++ rest) ≡ took (contentValue k o) (length (plpBytes o))
     plp-again o rest f = rw e (ap (mapRead (contentValue k)) (Plps.codec (isText k) .again o rest f))
 
     plp-took : (s : List ℕ) (v : Value) (m : ℕ) → Bytes s → readContent k n s ≡ took v m → HeldTook v m
@@ -100,7 +104,8 @@ module _ (n : ℕ) (k : ContentKind) where
     held-again : (v : Value) (rest : List ℕ) → Held k n v → readContent k n (encodeIn n (content k) v ++ rest) ≡ took v (length (encodeIn n (content k) v))
     held-again v rest (holds o f) = go (eqb n plpMark) refl
       where
-        go : (b : Bool) → eqb n plpMark ≡ b → readContent k n (encodeIn n (content k) (contentValue k o) ++ rest) ≡ took (contentValue k o) (length (encodeIn n (content k) (contentValue k o)))
+        go : (b : Bool) → eqb n plpMark ≡ b →
+            readContent k n (encodeIn n (content k) (contentValue k o) ++ rest) ≡ took (contentValue k o) (length (encodeIn n (content k) (contentValue k o)))
         go true e = rw (encode-plp k n o e) (plp-again e o rest (rw e at f))
         go false e = rw (encode-short k n o e, e) (short-again i e o rest (rw e at f))
 

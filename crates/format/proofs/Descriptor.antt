@@ -19,13 +19,18 @@ use borrow.Author.Tests.{ltb-true, eqb-true, not-true}
 use Rattle.lists.specs.Pick.{pick}
 use Rattle.format.specs.Answer.{Answer, gives, refuses, took, thenRead, mapRead, Part, inside, outside}
 use Rattle.format.specs.Number.{lowBytes, readByte, readLow}
-use Rattle.format.specs.Descriptor.{ByteLen, TypeId, fixedLen, byteLen, uShortLen, longLen, daten, xml, udt, ssVariant, typeByte, typeOf, Collation, Schema, Column, plain, hasDigits, hasCollation, datenLength, readSort, readCollation, readScale, readDigits, readUnits, readName, withNames, readThird, readSecond, schemaMarker, readSchema, readFields, readTyped, readType, readColumn, both, lengthFits, digitsFit, collationFits, schemaFits, keepsRule, nameFits, namesFit, digitsBytes, collationBytes, nameBytes, columnBytes, isDescribed, writeColumn}
+use Rattle.format.specs.Descriptor.{ByteLen, TypeId, fixedLen, byteLen, uShortLen, longLen, daten, xml, udt, ssVariant, typeByte, typeOf}
+use Rattle.format.specs.Descriptor.{Collation, Schema, Column, plain, hasDigits, hasCollation, datenLength, readSort, readCollation, readScale}
+use Rattle.format.specs.Descriptor.{readDigits, readUnits, readName, withNames, readThird, readSecond, schemaMarker, readSchema, readFields}
+use Rattle.format.specs.Descriptor.{readTyped, readType, readColumn, both, lengthFits, digitsFit, collationFits, schemaFits, keepsRule}
+use Rattle.format.specs.Descriptor.{nameFits, namesFit, digitsBytes, collationBytes, nameBytes, columnBytes, isDescribed, writeColumn}
 use Rattle.format.proofs.Answer.{no-truth}
 use Rattle.format.proofs.Number.{Bytes}
 use Rattle.format.proofs.Place.{no-took}
 use Rattle.format.proofs.Plain.{bytes-drop, bytes-again, low-again}
 use Rattle.format.proofs.Codec.{then-again}
-use Rattle.format.proofs.DescriptorForm.{both-true, same-took, type-byte, type-again, written, Form, byte-form, short-form, long-form, column, form-bytes}
+use Rattle.format.proofs.DescriptorForm.{both-true, same-took, type-byte, type-again, written, Form, byte-form, short-form, long-form, column}
+use Rattle.format.proofs.DescriptorForm.{form-bytes}
 use Rattle.format.proofs.DescriptorRead.{then-cut, byte-cut, odd, byte-front, bare-written, fields-cut}
 
 -- Xml with a marker other than 0 and 1
@@ -71,7 +76,8 @@ odd-marker (x ∷ m ∷ l) c n h o =
 -- ---- what was written reads back
 
 -- the type byte, and what follows it
-typed-again : (t : TypeId) (x rest : List ℕ) (c : Column) → readFields t (x ++ rest) ≡ took c (length x) → readColumn ((typeByte t ∷ x) ++ rest) ≡ took c (length (typeByte t ∷ x))
+typed-again : (t : TypeId) (x rest : List ℕ) (c : Column) → readFields t (x ++ rest) ≡ took c (length x) →
+    readColumn ((typeByte t ∷ x) ++ rest) ≡ took c (length (typeByte t ∷ x))
 unfolding readColumn readByte
 typed-again t x rest c q =
     then-again readByte readType (typeByte t ∷ []) x rest (typeByte t) c (λ more. refl) (ap (λ (a : Answer TypeId). readTyped a (x ++ rest)) (type-again t) ∙ q)
@@ -105,7 +111,8 @@ no-schema t none f h = refl
 no-schema t (some n) f h = no-truth (sym (f n) ∙ h)
 
 -- a type that is its byte alone
-bare-again : (t : TypeId) (n : ℕ) → columnBytes (plain t n) ≡ typeByte t ∷ [] → ((s : List ℕ) → readFields t s ≡ took (plain t n) 0) → (rest : List ℕ) → readColumn (columnBytes (plain t n) ++ rest) ≡ took (plain t n) (length (columnBytes (plain t n)))
+bare-again : (t : TypeId) (n : ℕ) → columnBytes (plain t n) ≡ typeByte t ∷ [] → ((s : List ℕ) → readFields t s ≡ took (plain t n) 0) →
+    (rest : List ℕ) → readColumn (columnBytes (plain t n) ++ rest) ≡ took (plain t n) (length (columnBytes (plain t n)))
 bare-again t n e f rest = rw e (typed-again t [] rest (plain t n) (f rest))
 
 digits-again : (t : TypeId) (n p x : ℕ) (rest : List ℕ) → digitsFit (hasDigits t) p x ≡ true →
@@ -113,7 +120,9 @@ digits-again : (t : TypeId) (n p x : ℕ) (rest : List ℕ) → digitsFit (hasDi
 unfolding thenRead readByte
 digits-again t n p x rest h = go (hasDigits t) h
   where
-    go : (b : Bool) → digitsFit b p x ≡ true → pick b (thenRead readByte (readScale t n) (digitsBytes b p x ++ rest)) (took (plain t n) 0) ≡ took (column t n p x none none) (length (digitsBytes b p x))
+    go : (b : Bool) → digitsFit b p x ≡ true →
+        pick b (thenRead readByte (readScale t n) (digitsBytes b p x ++ rest)) (took (plain t n) 0)
+        ≡ took (column t n p x none none) (length (digitsBytes b p x))
     go true q = refl
     go false q = let z = zeros false p x refl q in rw (z .0, z .1)
 
@@ -128,17 +137,22 @@ collation-again t n none rest h = go (hasCollation t) h
 collation-again t n (some c) rest h = go (hasCollation t) h
   where
     go : (b : Bool) → collationFits b (some c) ≡ true →
-        pick b (thenRead (readLow 4) (readSort t n) ((lowBytes 4 (c .info) ++ (c .sort ∷ [])) ++ rest)) (took (plain t n) 0) ≡ took (column t n 0 0 (some c) none) (length (lowBytes 4 (c .info) ++ (c .sort ∷ [])))
+        pick b (thenRead (readLow 4) (readSort t n) ((lowBytes 4 (c .info) ++ (c .sort ∷ [])) ++ rest)) (took (plain t n) 0)
+        ≡ took (column t n 0 0 (some c) none) (length (lowBytes 4 (c .info) ++ (c .sort ∷ [])))
     go true q =
         let i = ltb-true (c .info) (256 ^ 4) (both-true (ltb (c .info) (256 ^ 4)) (ltb (c .sort) 256) q .0) in
-        then-again (readLow 4) (readSort t n) (lowBytes 4 (c .info)) (c .sort ∷ []) rest (c .info) (column t n 0 0 (some c) none) (λ more. low-again 4 (c .info) more i) refl
+        then-again (readLow 4) (readSort t n) (lowBytes 4 (c .info)) (c .sort ∷ []) rest (c .info) (column t n 0 0 (some c) none)
+        (λ more. low-again 4 (c .info) more i) refl
     go false q = no-truth q
 
 -- a type with a length of w bytes
 module _ (t : TypeId) (w : ℕ) (f : Form t w) (n p x : ℕ) (l : Option Collation) (rest : List ℕ) (k : Kept t n p x l none) where
-  form-again : readFields t ((lowBytes w n ++ (digitsBytes (hasDigits t) p x ++ collationBytes l)) ++ rest) ≡ took (column t n p x l none) (length (lowBytes w n ++ (digitsBytes (hasDigits t) p x ++ collationBytes l))) →
+  form-again :
+      readFields t ((lowBytes w n ++ (digitsBytes (hasDigits t) p x ++ collationBytes l)) ++ rest)
+      ≡ took (column t n p x l none) (length (lowBytes w n ++ (digitsBytes (hasDigits t) p x ++ collationBytes l))) →
       readColumn (columnBytes (column t n p x l none) ++ rest) ≡ took (column t n p x l none) (length (columnBytes (column t n p x l none)))
-  form-again q = rw (form-bytes t w f n p x l) (typed-again t (lowBytes w n ++ (digitsBytes (hasDigits t) p x ++ collationBytes l)) rest (column t n p x l none) q)
+  form-again q =
+      rw (form-bytes t w f n p x l) (typed-again t (lowBytes w n ++ (digitsBytes (hasDigits t) p x ++ collationBytes l)) rest (column t n p x l none) q)
 
   below : n < 256 ^ w
   below = ltb-true n (256 ^ w) (sym (f .fits n) ∙ k .fits)
@@ -147,16 +161,21 @@ module _ (t : TypeId) (w : ℕ) (f : Form t w) (n p x : ℕ) (l : Option Collati
       readColumn (columnBytes (column t n p x l none) ++ rest) ≡ took (column t n p x l none) (length (columnBytes (column t n p x l none)))
   wide-again e r =
       let z = zeros (hasDigits t) p x e (k .digits) in
-      let q = then-again (readLow w) (readCollation t) (lowBytes w n) (collationBytes l) rest n (column t n 0 0 l none) (λ more. low-again w n more below) (collation-again t n l rest (k .collation)) in
+      let q =
+      then-again (readLow w) (readCollation t) (lowBytes w n) (collationBytes l) rest n (column t n 0 0 l none) (λ more. low-again w n more below)
+      (collation-again t n l rest (k .collation)) in
       form-again (rw (z .0, z .1, e) (r _ ∙ q))
 
 byte-len-again : (g : ByteLen) (n p x : ℕ) (rest : List ℕ) → Kept (byteLen g) n p x none none →
-    readColumn (columnBytes (column (byteLen g) n p x none none) ++ rest) ≡ took (column (byteLen g) n p x none none) (length (columnBytes (column (byteLen g) n p x none none)))
+    readColumn (columnBytes (column (byteLen g) n p x none none) ++ rest)
+    ≡ took (column (byteLen g) n p x none none) (length (columnBytes (column (byteLen g) n p x none none)))
 unfolding readByte
 byte-len-again g n p x rest k =
     let t = byteLen g in
     let i : n % 256 ≡ n = omega (arith, ltb-true n 256 (k .fits)) in
-    let q = then-again readByte (readDigits t) (n ∷ []) (digitsBytes (hasDigits t) p x) rest n (column t n p x none none) (λ more. refl) (digits-again t n p x rest (k .digits)) in
+    let q =
+    then-again readByte (readDigits t) (n ∷ []) (digitsBytes (hasDigits t) p x) rest n (column t n p x none none) (λ more. refl)
+    (digits-again t n p x rest (k .digits)) in
     form-again t 1 (byte-form g) n p x none rest k (rw (i, append-nil (digitsBytes (hasDigits (byteLen g)) p x)) q)
 
 -- names
@@ -172,7 +191,8 @@ names-again : (x y z rest : List ℕ) → nameFits 1 (inside x) ≡ true → nam
     thenRead (readName 1) readSecond ((nameBytes 1 (inside x) ++ (nameBytes 1 (inside y) ++ nameBytes 2 (inside z))) ++ rest)
     ≡ took (withNames x y z) (length (nameBytes 1 (inside x) ++ (nameBytes 1 (inside y) ++ nameBytes 2 (inside z))))
 names-again x y z rest h i j =
-    then-again (readName 1) readSecond (nameBytes 1 (inside x)) (nameBytes 1 (inside y) ++ nameBytes 2 (inside z)) rest x (withNames x y z) (λ more. name-again 1 x more h)
+    then-again (readName 1) readSecond (nameBytes 1 (inside x)) (nameBytes 1 (inside y) ++ nameBytes 2 (inside z)) rest x (withNames x y z)
+    (λ more. name-again 1 x more h)
     (then-again (readName 1) (readThird x) (nameBytes 1 (inside y)) (nameBytes 2 (inside z)) rest y (withNames x y z) (λ more. name-again 1 y more i)
     (ap (mapRead (withNames x y)) (name-again 2 z rest j)))
 
@@ -180,7 +200,8 @@ abbrev parts : Part → Part → Part → Schema
 parts x y z = record { database = x; owner = y; collection = z }
 
 schema-again : (x y z : Part) (rest : List ℕ) → namesFit (some (parts x y z)) ≡ true →
-    readColumn (columnBytes (column xml 0 0 0 none (some (parts x y z))) ++ rest) ≡ took (column xml 0 0 0 none (some (parts x y z))) (length (columnBytes (column xml 0 0 0 none (some (parts x y z)))))
+    readColumn (columnBytes (column xml 0 0 0 none (some (parts x y z))) ++ rest)
+    ≡ took (column xml 0 0 0 none (some (parts x y z))) (length (columnBytes (column xml 0 0 0 none (some (parts x y z)))))
 unfolding columnBytes readByte
 schema-again (inside x) (inside y) (inside z) rest h =
     let p = both-true (nameFits 1 (inside x)) (both (nameFits 1 (inside y)) (nameFits 2 (inside z))) h in
@@ -193,30 +214,38 @@ schema-again (inside x) outside z rest h = no-truth (both-true (nameFits 1 (insi
 schema-again (inside x) (inside y) outside rest h =
     no-truth (both-true (nameFits 1 (inside y)) false (both-true (nameFits 1 (inside x)) (both (nameFits 1 (inside y)) false) h .1) .1)
 
-xml-again : (m : Option Schema) (rest : List ℕ) → namesFit m ≡ true → readColumn (columnBytes (column xml 0 0 0 none m) ++ rest) ≡ took (column xml 0 0 0 none m) (length (columnBytes (column xml 0 0 0 none m)))
+xml-again : (m : Option Schema) (rest : List ℕ) → namesFit m ≡ true →
+    readColumn (columnBytes (column xml 0 0 0 none m) ++ rest) ≡ took (column xml 0 0 0 none m) (length (columnBytes (column xml 0 0 0 none m)))
 unfolding columnBytes thenRead readByte
 xml-again none rest h = typed-again xml (0 ∷ []) rest (plain xml 0) refl
 xml-again (some s) rest h = schema-again (s .database) (s .owner) (s .collection) rest h
 
-column-again : (t : TypeId) (n p x : ℕ) (l : Option Collation) (m : Option Schema) (rest : List ℕ) → Kept t n p x l m → namesFit m ≡ true → isDescribed t ≡ true →
+column-again : (t : TypeId) (n p x : ℕ) (l : Option Collation) (m : Option Schema) (rest : List ℕ) → Kept t n p x l m → namesFit m ≡ true →
+    isDescribed t ≡ true →
     readColumn (columnBytes (column t n p x l m) ++ rest) ≡ took (column t n p x l m) (length (columnBytes (column t n p x l m)))
 unfolding columnBytes
 column-again (fixedLen f) n p x l m rest k i d =
     let z = zeros false p x refl (k .digits) in
-    rw (eqb-true n 0 (k .fits), z .0, z .1, no-collation false l refl (k .collation), no-schema (fixedLen f) m (λ s. refl) (k .schema)) (bare-again (fixedLen f) 0 refl (λ s. refl) rest)
+    rw (eqb-true n 0 (k .fits), z .0, z .1, no-collation false l refl (k .collation), no-schema (fixedLen f) m (λ s. refl) (k .schema))
+    (bare-again (fixedLen f) 0 refl (λ s. refl) rest)
 column-again (byteLen f) n p x l m rest k i d =
     let a = no-collation false l refl (k .collation) in
     let b = no-schema (byteLen f) m (λ s. refl) (k .schema) in
     rw (a, b) (byte-len-again f n p x rest (record { fits = k .fits; digits = k .digits; collation = refl; schema = refl }))
 column-again (uShortLen f) n p x l m rest k i d =
     let b = no-schema (uShortLen f) m (λ s. refl) (k .schema) in
-    rw b (wide-again (uShortLen f) 2 (short-form f) n p x l rest (record { fits = k .fits; digits = k .digits; collation = k .collation; schema = refl }) refl (λ s. refl))
+    rw b
+    (wide-again (uShortLen f) 2 (short-form f) n p x l rest (record { fits = k .fits; digits = k .digits; collation = k .collation; schema = refl })
+    refl (λ s. refl))
 column-again (longLen f) n p x l m rest k i d =
     let b = no-schema (longLen f) m (λ s. refl) (k .schema) in
-    rw b (wide-again (longLen f) 4 (long-form f) n p x l rest (record { fits = k .fits; digits = k .digits; collation = k .collation; schema = refl }) refl (λ s. refl))
+    rw b
+    (wide-again (longLen f) 4 (long-form f) n p x l rest (record { fits = k .fits; digits = k .digits; collation = k .collation; schema = refl }) refl
+    (λ s. refl))
 column-again daten n p x l m rest k i d =
     let z = zeros false p x refl (k .digits) in
-    rw (eqb-true n datenLength (k .fits), z .0, z .1, no-collation false l refl (k .collation), no-schema daten m (λ s. refl) (k .schema)) (bare-again daten datenLength refl (λ s. refl) rest)
+    rw (eqb-true n datenLength (k .fits), z .0, z .1, no-collation false l refl (k .collation), no-schema daten m (λ s. refl) (k .schema))
+    (bare-again daten datenLength refl (λ s. refl) rest)
 column-again xml n p x l m rest k i d =
     let z = zeros false p x refl (k .digits) in
     rw (eqb-true n 0 (k .fits), z .0, z .1, no-collation false l refl (k .collation)) (xml-again m rest i)
@@ -226,4 +255,6 @@ column-again ssVariant n p x l m rest k i d = no-truth d
 pub again : (c : Column) (b rest : List ℕ) → writeColumn c ≡ gives b → readColumn (b ++ rest) ≡ took c (length b)
 again c b rest h =
     let w = written c b h in
-    rw (w .bytes) at (column-again (c .type) (c .length) (c .precision) (c .scale) (c .collation) (c .schema) rest (kept (c .type) (c .length) (c .precision) (c .scale) (c .collation) (c .schema) (w .keeps)) (w .fits) (w .described))
+    rw (w .bytes) at
+    (column-again (c .type) (c .length) (c .precision) (c .scale) (c .collation) (c .schema) rest
+    (kept (c .type) (c .length) (c .precision) (c .scale) (c .collation) (c .schema) (w .keeps)) (w .fits) (w .described))

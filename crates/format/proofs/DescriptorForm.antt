@@ -11,7 +11,10 @@ use borrow.Author.Tests.{lt-ltb, eqb-true, not-false}
 use Rattle.lists.proofs.Split.{split}
 use Rattle.format.specs.Answer.{gives, rule, notCarried, took}
 use Rattle.format.specs.Number.{lowBytes}
-use Rattle.format.specs.Descriptor.{FixedLen, ByteLen, UShortLen, LongLen, TypeId, fixedLen, byteLen, uShortLen, longLen, daten, xml, udt, ssVariant, typeByte, types, among, typeOf, Collation, Schema, Column, hasDigits, hasCollation, lengthWidth, both, lengthFits, digitsFit, collationFits, keepsRule, namesFit, digitsBytes, collationBytes, schemaBytes, columnBytes, isDescribed, writeColumn}
+use Rattle.format.specs.Descriptor.{FixedLen, ByteLen, UShortLen, LongLen, TypeId, fixedLen, byteLen, uShortLen, longLen, daten, xml, udt}
+use Rattle.format.specs.Descriptor.{ssVariant, typeByte, types, among, typeOf, Collation, Schema, Column, hasDigits, hasCollation, lengthWidth}
+use Rattle.format.specs.Descriptor.{both, lengthFits, digitsFit, collationFits, keepsRule, namesFit, digitsBytes, collationBytes, schemaBytes}
+use Rattle.format.specs.Descriptor.{columnBytes, isDescribed, writeColumn}
 use Rattle.format.proofs.Answer.{no-truth, no-gives, passed}
 
 -- ---- tests

@@ -14,7 +14,11 @@ use borrow.Author.Tests.{lt-ltb, eq-eqb, ltb-false, eqb-true}
 use Rattle.lists.proofs.Split.{split}
 use Rattle.format.specs.Answer.{gives, Read, took, missing, thenRead, inside}
 use Rattle.format.specs.Number.{lowNat, lowBytes, readByte, readLow}
-use Rattle.format.specs.Descriptor.{ByteLen, TypeId, fixedLen, byteLen, uShortLen, longLen, daten, xml, udt, ssVariant, byteLenByte, typeByte, Collation, Column, plain, hasDigits, hasCollation, datenLength, withSort, readSort, readCollation, withScale, readScale, readDigits, readUnits, readName, withNames, readThird, readSecond, schemaMarker, readSchema, readFields, both, digitsFit, collationFits, keepsRule, nameFits, digitsBytes, nameBytes, columnBytes, writeColumn}
+use Rattle.format.specs.Descriptor.{ByteLen, TypeId, fixedLen, byteLen, uShortLen, longLen, daten, xml, udt, ssVariant, byteLenByte, typeByte}
+use Rattle.format.specs.Descriptor.{Collation, Column, plain, hasDigits, hasCollation, datenLength, withSort, readSort, readCollation}
+use Rattle.format.specs.Descriptor.{withScale, readScale, readDigits, readUnits, readName, withNames, readThird, readSecond, schemaMarker}
+use Rattle.format.specs.Descriptor.{readSchema, readFields, both, digitsFit, collationFits, keepsRule, nameFits, digitsBytes, nameBytes}
+use Rattle.format.specs.Descriptor.{columnBytes, writeColumn}
 use Rattle.format.proofs.Answer.{no-truth}
 use Rattle.format.proofs.Number.{Bytes, low-forth, low-lt}
 use Rattle.format.proofs.Place.{no-took, past, map-took, then-took}
@@ -70,7 +74,8 @@ module _ (f : ByteLen) (n : ℕ) (s : List ℕ) (c : Column) (k : ℕ) (h : n < 
       let z : byteLenByte f ∷ (lowBytes 1 n ++ (digitsBytes (hasDigits (byteLen f)) 0 0 ++ [])) ≡ byteLenByte f ∷ n ∷ [] = rw (e, m) in
       rw (r .0, r .1) (form-written (byteLen f) 1 (byte-form f) n 0 0 none h d refl ∙ ap gives z)
 
-  two-digits-cut : hasDigits (byteLen f) ≡ true → thenRead readByte (readScale (byteLen f) n) s ≡ took c k → writeColumn c ≡ gives (byteLenByte f ∷ n ∷ take k s)
+  two-digits-cut : hasDigits (byteLen f) ≡ true → thenRead readByte (readScale (byteLen f) n) s ≡ took c k →
+      writeColumn c ≡ gives (byteLenByte f ∷ n ∷ take k s)
   two-digits-cut e q =
       let t = then-cut readByte (readScale (byteLen f) n) s c k q in
       let p = t .0 in
@@ -88,7 +93,8 @@ module _ (f : ByteLen) (n : ℕ) (s : List ℕ) (c : Column) (k : ℕ) (h : n < 
   digits-cut : readDigits (byteLen f) n s ≡ took c k → writeColumn c ≡ gives (byteLenByte f ∷ n ∷ take k s)
   digits-cut = split (hasDigits (byteLen f)) two-digits-cut no-digits-cut
 
-byte-len-cut : (f : ByteLen) (s : List ℕ) (c : Column) (k : ℕ) → Bytes s → readFields (byteLen f) s ≡ took c k → writeColumn c ≡ gives (byteLenByte f ∷ take k s)
+byte-len-cut : (f : ByteLen) (s : List ℕ) (c : Column) (k : ℕ) → Bytes s → readFields (byteLen f) s ≡ took c k →
+    writeColumn c ≡ gives (byteLenByte f ∷ take k s)
 byte-len-cut f s c k b h =
     let t = then-cut readByte (readDigits (byteLen f)) s c k h in
     let u = byte-cut s (t .0) (t .1) b (t .3) in
@@ -114,16 +120,22 @@ module _ (t : TypeId) (w : ℕ) (f : Form t w) (none-digits : hasDigits t ≡ fa
       let y = byte-cut (drop (g .1) s) sort (g .2) (bytes-drop (g .1) s b) (v .1) in
       let d : digitsFit (hasDigits t) 0 0 ≡ true = rw none-digits in
       let o : Option Collation = some (record { info = info; sort = sort }) in
-      let l : collationFits (hasCollation t) (some (record { info = info; sort = sort })) ≡ true = rw (e, lt-ltb info (256 ^ 4) (u .1), lt-ltb sort 256 (y .1)) in
+      let l : collationFits (hasCollation t) (some (record {
+        info =
+            info;
+        sort = sort;
+      })) ≡ true = rw (e, lt-ltb info (256 ^ 4) (u .1), lt-ltb sort 256 (y .1)) in
       let r : c ≡ withSort t n info sort = sym (v .2) in
       let i : take k s ≡ lowBytes 4 info ++ (sort ∷ []) = rw (g .5, u .0, y .0) in
-      let z : typeByte t ∷ (lowBytes w n ++ (digitsBytes (hasDigits t) 0 0 ++ (lowBytes 4 info ++ (sort ∷ [])))) ≡ typeByte t ∷ (lowBytes w n ++ (lowBytes 4 info ++ (sort ∷ []))) = rw none-digits in
+      let z : typeByte t ∷ (lowBytes w n ++ (digitsBytes (hasDigits t) 0 0 ++ (lowBytes 4 info ++ (sort ∷ [])))) ≡ typeByte t ∷ (lowBytes w n ++ (lowBytes 4 info ++ (sort ∷ []))) =
+      rw none-digits in
       rw (r, i) (form-written t w f n 0 0 o h d l ∙ ap gives z)
 
   behind-length-cut : readCollation t n s ≡ took c k → writeColumn c ≡ gives (typeByte t ∷ (lowBytes w n ++ take k s))
   behind-length-cut = split (hasCollation t) collation-cut no-collation-cut
 
-wide-cut : (t : TypeId) (w : ℕ) → Form t w → hasDigits t ≡ false → (s : List ℕ) (c : Column) (k : ℕ) → Bytes s → thenRead (readLow w) (readCollation t) s ≡ took c k → writeColumn c ≡ gives (typeByte t ∷ take k s)
+wide-cut : (t : TypeId) (w : ℕ) → Form t w → hasDigits t ≡ false → (s : List ℕ) (c : Column) (k : ℕ) → Bytes s →
+    thenRead (readLow w) (readCollation t) s ≡ took c k → writeColumn c ≡ gives (typeByte t ∷ take k s)
 wide-cut t w f e s c k b h =
     let a = then-cut (readLow w) (readCollation t) s c k h in
     let u = low-cut w s (a .0) (a .1) b (a .3) in
@@ -156,7 +168,8 @@ pub bare-written : writeColumn (plain xml 0) ≡ gives (typeByte xml ∷ 0 ∷ [
 unfolding writeColumn keepsRule columnBytes
 bare-written = refl
 
-names-cut : (s : List ℕ) (c : Column) (k : ℕ) → Bytes s → thenRead (readName 1) readSecond s ≡ took c k → writeColumn c ≡ gives (typeByte xml ∷ schemaMarker ∷ take k s)
+names-cut : (s : List ℕ) (c : Column) (k : ℕ) → Bytes s → thenRead (readName 1) readSecond s ≡ took c k →
+    writeColumn c ≡ gives (typeByte xml ∷ schemaMarker ∷ take k s)
 names-cut s c k b h =
     let g = then-cut (readName 1) readSecond s c k h in
     let x = g .0 in
@@ -173,7 +186,8 @@ names-cut s c k b h =
     let l : take k s ≡ nameBytes 1 (inside x) ++ (nameBytes 1 (inside y) ++ nameBytes 2 (inside z)) = rw (g .5, i .0, j .5, o .0, u .0) in
     rw (e, l) (names-written x y z (i .1) (o .1) (u .1))
 
-bare-cut : (m : ℕ) (s : List ℕ) (c : Column) (k : ℕ) → eqb m schemaMarker ≡ false → odd (m ∷ s) ≡ false → took (plain xml 0) 0 ≡ took c k → writeColumn c ≡ gives (typeByte xml ∷ m ∷ take k s)
+bare-cut : (m : ℕ) (s : List ℕ) (c : Column) (k : ℕ) → eqb m schemaMarker ≡ false → odd (m ∷ s) ≡ false → took (plain xml 0) 0 ≡ took c k →
+    writeColumn c ≡ gives (typeByte xml ∷ m ∷ take k s)
 bare-cut m s c k e o q = let p = same-took (plain xml 0) c 0 k q in rw (p .0, p .1, zero-marker m s e o) bare-written
 
 xml-cut : (s : List ℕ) (c : Column) (k : ℕ) → Bytes s → odd s ≡ false → readFields xml s ≡ took c k → writeColumn c ≡ gives (typeByte xml ∷ take k s)
@@ -191,7 +205,8 @@ xml-cut s c k b o h =
     (a .4))
 
 -- what follows the type byte
-pub fields-cut : (t : TypeId) (s : List ℕ) (c : Column) (k : ℕ) → Bytes s → (t ≡ xml → odd s ≡ false) → readFields t s ≡ took c k → writeColumn c ≡ gives (typeByte t ∷ take k s)
+pub fields-cut : (t : TypeId) (s : List ℕ) (c : Column) (k : ℕ) → Bytes s → (t ≡ xml → odd s ≡ false) → readFields t s ≡ took c k →
+    writeColumn c ≡ gives (typeByte t ∷ take k s)
 unfolding writeColumn keepsRule columnBytes
 fields-cut (fixedLen f) s c k b o h = let r = same-took (plain (fixedLen f) 0) c 0 k h in rw (r .0, r .1)
 fields-cut (byteLen f) s c k b o h = byte-len-cut f s c k b h

@@ -18,7 +18,8 @@ pub data Fixed (k : Kind) : Value → Type 0 where
   scalar : (x : Scalar) → Scalars.Fit k x → Fixed k (Value.scalar x)
 
 module _ (n : ℕ) (k : Kind) where
-  fixed-again : (v : Value) (rest : List ℕ) → Fixed k v → readFamily n (some (fixedWidth k)) (encodeIn n (fixedWidth k) v ++ rest) ≡ took v (length (encodeIn n (fixedWidth k) v))
+  fixed-again : (v : Value) (rest : List ℕ) → Fixed k v →
+      readFamily n (some (fixedWidth k)) (encodeIn n (fixedWidth k) v ++ rest) ≡ took v (length (encodeIn n (fixedWidth k) v))
   fixed-again v rest (scalar x f) = ap (mapRead Value.scalar) (Scalars.codec k .again x rest f)
 
   fixed-fits : (s : List ℕ) (v : Value) (m : ℕ) → Bytes s → readFamily n (some (fixedWidth k)) s ≡ took v m → Fixed k v

@@ -85,7 +85,8 @@ some-width Kind.guid = refl
 
 module _ (n : ℕ) (ks : List Kind) (t : Told ks ks) where
   -- the width tells the kind back, and behind it the scalar reads
-  width-read : (x : Scalar) (rest : List ℕ) → isOneOf ks (kindOf x) ≡ true → width (kindOf x) ≤ n → Scalars.InRange x → readLengthByte ks n (width (kindOf x)) (scalarBytes x ++ rest) ≡ took (Value.scalar x) (length (scalarBytes x))
+  width-read : (x : Scalar) (rest : List ℕ) → isOneOf ks (kindOf x) ≡ true → width (kindOf x) ≤ n → Scalars.InRange x →
+      readLengthByte ks n (width (kindOf x)) (scalarBytes x ++ rest) ≡ took (Value.scalar x) (length (scalarBytes x))
   width-read x rest i l r =
       let k = kindOf x in
       let a : eqb (width k) 0 ≡ false = some-width k in
@@ -93,11 +94,13 @@ module _ (n : ℕ) (ks : List Kind) (t : Told ks ks) where
       let c : ltb n (width k) ≡ false = le-ltb n (width k) l in
       rw (a, b, c, Scalars.codec k .again x rest (refl, r))
 
-  listed-again : (v : Value) (rest : List ℕ) → Listed ks n v → readFamily n (some (lengthByte ks)) (encodeIn n (lengthByte ks) v ++ rest) ≡ took v (length (encodeIn n (lengthByte ks) v))
+  listed-again : (v : Value) (rest : List ℕ) → Listed ks n v →
+      readFamily n (some (lengthByte ks)) (encodeIn n (lengthByte ks) v ++ rest) ≡ took v (length (encodeIn n (lengthByte ks) v))
   unfolding readByte
   listed-again v rest null = then-again readByte (readLengthByte ks n) (0 ∷ []) [] rest 0 Value.null (λ more. refl) refl
   listed-again v rest (scalar x i l r) =
-      then-again readByte (readLengthByte ks n) (width (kindOf x) ∷ []) (scalarBytes x) rest (width (kindOf x)) (Value.scalar x) (λ more. refl) (width-read x rest i l r)
+      then-again readByte (readLengthByte ks n) (width (kindOf x) ∷ []) (scalarBytes x) rest (width (kindOf x)) (Value.scalar x) (λ more. refl)
+      (width-read x rest i l r)
 
   -- what was read fits, and takes no more bytes again
   abbrev ListedTook : Value → ℕ → Type 0
@@ -120,7 +123,8 @@ module _ (n : ℕ) (ks : List Kind) (t : Told ks ks) where
       let i : width (kindOf x) ≤ n = omega (arith, ltb-false n w (p .0), o .0, ap width (f .0)) in
       rw (← q .2) (scalar x (rw (f .0) (o .1)) i (f .1), omega arith)
 
-  listed-took : (s : List ℕ) (v : Value) (m : ℕ) → Bytes s → readFamily n (some (lengthByte ks)) s ≡ took v m → Listed ks n v × (length (encodeIn n (lengthByte ks) v) ≤ m + 0)
+  listed-took : (s : List ℕ) (v : Value) (m : ℕ) → Bytes s → readFamily n (some (lengthByte ks)) s ≡ took v m →
+      Listed ks n v × (length (encodeIn n (lengthByte ks) v) ≤ m + 0)
   listed-took s v m b h =
       let p = then-took readByte (readLengthByte ks n) s v m h in
       let w = p .0 in

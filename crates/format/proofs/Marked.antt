@@ -12,7 +12,8 @@ use Rattle.format.specs.Guid.{guidOrder}
 use Rattle.format.specs.Text.{char8, utf16, scalars, spelled, textIn}
 use Rattle.format.specs.Header.{Header, readHeader, writeHeader}
 use Rattle.format.specs.Prelogin.{Prelogin, writePrelogin}
-use Rattle.format.specs.Descriptor.{ByteLen, UShortLen, byteLen, uShortLen, daten, xml, Column, plain, withSort, typeOf, readColumn, keepsRule, columnBytes, writeColumn}
+use Rattle.format.specs.Descriptor.{ByteLen, UShortLen, byteLen, uShortLen, daten, xml, Column, plain, withSort, typeOf, readColumn, keepsRule}
+use Rattle.format.specs.Descriptor.{columnBytes, writeColumn}
 use Rattle.format.specs.Scalar.{Scalar, scalarOf, scalarBytes, readScalar}
 use Rattle.format.specs.Plp.{plpBound, readPlpHead, endOf, chunkOf, takeHead, walkFrom, joinFrom, readPlp, plpBytes}
 use Rattle.format.specs.Value.{Value, Given, readValue, encode, writeValue}
@@ -82,7 +83,8 @@ guid16 = plain (byteLen ByteLen.guid) 16
 
 abbrev chunks10 : List ℕ
 chunks10 =
-    0xFE ∷ 0xFF ∷ 0xFF ∷ 0xFF ∷ 0xFF ∷ 0xFF ∷ 0xFF ∷ 0xFF ∷ 0x01 ∷ 0x00 ∷ 0x00 ∷ 0x00 ∷ 0xAA ∷ 0x02 ∷ 0x00 ∷ 0x00 ∷ 0x00 ∷ 0xBB ∷ 0xCC ∷ 0x00 ∷ 0x00 ∷ 0x00 ∷ 0x00 ∷ []
+    0xFE ∷ 0xFF ∷ 0xFF ∷ 0xFF ∷ 0xFF ∷ 0xFF ∷ 0xFF ∷ 0xFF ∷ 0x01 ∷ 0x00 ∷ 0x00 ∷ 0x00 ∷ 0xAA ∷ 0x02 ∷ 0x00 ∷ 0x00 ∷ 0x00 ∷ 0xBB ∷ 0xCC ∷ 0x00 ∷ 0x00 ∷
+    0x00 ∷ 0x00 ∷ []
 
 abbrev normal10 : List ℕ
 normal10 =
@@ -135,5 +137,7 @@ marked =
     ∷ []
 
 pub all-marked : All marked
-unfolding thenRead signed unsigned readBytes readByte readLow guidOrder char8 utf16 scalars spelled textIn readHeader writeHeader writePrelogin typeOf readColumn keepsRule columnBytes writeColumn scalarOf scalarBytes readScalar plpBound readPlpHead endOf chunkOf takeHead walkFrom joinFrom readPlp plpBytes readValue encode writeValue readValues readRow encodeRow normal
+unfolding thenRead signed unsigned readBytes readByte readLow guidOrder char8 utf16 scalars spelled textIn readHeader writeHeader writePrelogin
+    typeOf readColumn keepsRule columnBytes writeColumn scalarOf scalarBytes readScalar plpBound readPlpHead endOf chunkOf takeHead walkFrom joinFrom
+    readPlp plpBytes readValue encode writeValue readValues readRow encodeRow normal
 all-marked = (refl, (refl, (refl, (refl, (refl, (refl, (refl, (refl, (refl, (refl, (refl, (refl, (refl, (refl, (refl, (refl, (refl, (refl, tt))))))))))))))))))

@@ -93,7 +93,8 @@ high-cons zero x m h g =
 high-cons (suc w) x m h g =
     let p = 256 ^ w in
     let q : 256 ^ suc w ≡ 256 * p = pow-suc 256 w ∙ mul-comm p 256 in
-    let r : x * 256 ^ suc w ≡ 256 * (x * p) = ap (λ (n : ℕ). x * n) q ∙ (sym (mul-assoc x 256 p) ∙ (ap (λ (n : ℕ). n * p) (mul-comm x 256) ∙ mul-assoc 256 x p)) in
+    let r : x * 256 ^ suc w ≡ 256 * (x * p) =
+    ap (λ (n : ℕ). x * n) q ∙ (sym (mul-assoc x 256 p) ∙ (ap (λ (n : ℕ). n * p) (mul-comm x 256) ∙ mul-assoc 256 x p)) in
     let d : (x * 256 ^ suc w + m) / 256 ≡ x * p + m / 256 = omega (arith, r) in
     let e : (x * 256 ^ suc w + m) % 256 ≡ m % 256 = omega (arith, r) in
     let l : m / 256 < p = omega (arith, q) in

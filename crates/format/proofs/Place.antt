@@ -73,12 +73,14 @@ module _ {A B : Type 0} (reader : List ℕ → Read A) (next : A → List ℕ �
       (k, ap (λ (y : B). took y k) p, q)
   further-took n (stops e) b m h = no-took e b m h
 
-  follow-took : (s : List ℕ) (r : Read A) (b : B) (m : ℕ) → follow r next s ≡ took b m → (a : A) × (n : ℕ) × (k : ℕ) × (r ≡ took a n) × (next a (drop n s) ≡ took b k) × (n + k ≡ m)
+  follow-took : (s : List ℕ) (r : Read A) (b : B) (m : ℕ) → follow r next s ≡ took b m →
+      (a : A) × (n : ℕ) × (k : ℕ) × (r ≡ took a n) × (next a (drop n s) ≡ took b k) × (n + k ≡ m)
   follow-took s (took a n) b m h = let p = further-took n (next a (drop n s)) b m h in (a, n, p .0, refl, p .1, p .2)
   follow-took s (stops e) b m h = no-took e b m h
 
   -- what two readers one behind the other took
-  pub then-took : (s : List ℕ) (b : B) (m : ℕ) → thenRead reader next s ≡ took b m → (a : A) × (n : ℕ) × (k : ℕ) × (reader s ≡ took a n) × (next a (drop n s) ≡ took b k) × (n + k ≡ m)
+  pub then-took : (s : List ℕ) (b : B) (m : ℕ) → thenRead reader next s ≡ took b m →
+      (a : A) × (n : ℕ) × (k : ℕ) × (reader s ≡ took a n) × (next a (drop n s) ≡ took b k) × (n + k ≡ m)
   unfolding thenRead
   then-took s b m h = follow-took s (reader s) b m h
 
@@ -189,7 +191,8 @@ module _ {A B : Type 0} (f : A → B) (reader : List ℕ → Read A) (s : List �
   unfolding readAt
   at-map = go (ltb (length s) at)
     where
-      go : (b : Bool) → pick b (stops missing) (further at (mapRead f (reader (drop at s)))) ≡ mapRead f (pick b (stops missing) (further at (reader (drop at s))))
+      go : (b : Bool) →
+          pick b (stops missing) (further at (mapRead f (reader (drop at s)))) ≡ mapRead f (pick b (stops missing) (further at (reader (drop at s))))
       go true = refl
       go false = further-map (reader (drop at s))
 

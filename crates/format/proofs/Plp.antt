@@ -21,7 +21,8 @@ use Rattle.lists.specs.Pick.{pick}
 use Rattle.lists.proofs.Split.{split}
 use Rattle.format.specs.Answer.{Answer, gives, refuses, Read, took, stops, long}
 use Rattle.format.specs.Number.{lowNat, lowBytes, readLow}
-use Rattle.format.specs.Plp.{plpBound, plpNull, plpUnknown, PlpHead, isNull, chunked, headOf, readPlpHead, Walk, isOdd, lengthAt, Walked, walkFrom, joinFrom, opened, joinedOf, readChunks, readPlp, chunkBytes, plpBytes}
+use Rattle.format.specs.Plp.{plpBound, plpNull, plpUnknown, PlpHead, isNull, chunked, headOf, readPlpHead, Walk, isOdd, lengthAt, Walked}
+use Rattle.format.specs.Plp.{walkFrom, joinFrom, opened, joinedOf, readChunks, readPlp, chunkBytes, plpBytes}
 use Rattle.format.proofs.Number.{low-back}
 use Rattle.format.proofs.Answer.{no-truth}
 use Rattle.format.proofs.Place.{past, no-took, then-took, stays-low}
@@ -53,7 +54,8 @@ module _ (s tail : List ℕ) (at n : ℕ) (h : n < 256 ^ 4) (e : drop at s ≡ l
   said-inside = omega (arith, simp length-drop at (ap length e))
 
 -- the walk at the last zero
-module _ (s rest : List ℕ) (a k : ℕ) (w : Walk) (n : w .ended ≡ false) (t : w .total ≡ none) (o : isOdd (w .text) (w .sum) ≡ false) (e : drop (w .at) s ≡ lowBytes 4 0 ++ rest) where
+module _ (s rest : List ℕ) (a k : ℕ) (w : Walk) (n : w .ended ≡ false) (t : w .total ≡ none) (o : isOdd (w .text) (w .sum) ≡ false)
+    (e : drop (w .at) s ≡ lowBytes 4 0 ++ rest) where
   zero-head : Head s w (atEnd w)
   zero-head = last (omega (arith, said-inside s rest (w .at) 0 (lit< tt) e)) (said-length s rest (w .at) 0 (lit< tt) e) (rw t) o
 
@@ -66,7 +68,8 @@ module _ (s rest : List ℕ) (a k : ℕ) (w : Walk) (n : w .ended ≡ false) (t 
       join-head s a w (atEnd w) n zero-head ∙ rw (z, join-ended s a (atEnd w) refl)
 
 -- the walk over one chunk and the last zero
-module _ (text : Bool) (s c rest : List ℕ) (a : ℕ) (p : 0 < length c) (b : length c ≤ plpBound) (o : isOdd text (length c) ≡ false) (e : drop 8 s ≡ lowBytes 4 (length c) ++ (c ++ (lowBytes 4 0 ++ rest))) where
+module _ (text : Bool) (s c rest : List ℕ) (a : ℕ) (p : 0 < length c) (b : length c ≤ plpBound) (o : isOdd text (length c) ≡ false)
+    (e : drop 8 s ≡ lowBytes 4 (length c) ++ (c ++ (lowBytes 4 0 ++ rest))) where
   abbrev start : Walk
   start = opened none text
 
@@ -95,7 +98,8 @@ module _ (text : Bool) (s c rest : List ℕ) (a : ℕ) (p : 0 < length c) (b : l
   one-join =
       let n : 8 + 4 + length c - 12 ≡ length c = omega arith in
       let d : drop 12 s ≡ c ++ (lowBytes 4 0 ++ rest) = said-rest s (c ++ (lowBytes 4 0 ++ rest)) 8 (length c) said e in
-      join-head s (suc a) start later refl one-head ∙ rw (zero-join s rest a 1 later refl refl (rw zero-add o) rest-at, append-nil, n, d, take-append-seam c (lowBytes 4 0 ++ rest))
+      join-head s (suc a) start later refl one-head ∙
+      rw (zero-join s rest a 1 later refl refl (rw zero-add o) rest-at, append-nil, n, d, take-append-seam c (lowBytes 4 0 ++ rest))
 
 -- the eight bytes
 null-head : (rest : List ℕ) → readPlpHead (lowBytes 8 plpNull ++ rest) ≡ took isNull 8
@@ -107,7 +111,9 @@ unfolding readPlpHead
 unknown-head rest = then-again (readLow 8) headOf (lowBytes 8 plpUnknown) [] rest plpUnknown (chunked none) (λ more. low-again 8 plpUnknown more (lit< tt)) refl
 
 -- behind eight bytes that say an unknown length, a walk that ends and what it joins
-plp-joins : (text : Bool) (s c : List ℕ) (x : Walked) → readPlpHead s ≡ took (chunked none) 8 → walkFrom (length s + 1) s (opened none text) 0 ≡ gives x → joinFrom (length s + 1) s (opened none text) ≡ c → readPlp text s ≡ took (some c) (x .walk .at)
+plp-joins : (text : Bool) (s c : List ℕ) (x : Walked) → readPlpHead s ≡ took (chunked none) 8 →
+    walkFrom (length s + 1) s (opened none text) 0 ≡ gives x → joinFrom (length s + 1) s (opened none text) ≡ c →
+    readPlp text s ≡ took (some c) (x .walk .at)
 unfolding readPlp
 plp-joins text s c x h w j = rw (h, w, j)
 
@@ -183,7 +189,8 @@ eight s h n e =
     (omega arith, omega arith)
 
 module _ (text : Bool) (s : List ℕ) (o : Option (List ℕ)) (n : ℕ) where
-  chunks-took : (total : Option ℕ) → 8 ≤ length s → (r : Answer Walked) → walkFrom (length s + 1) s (opened total text) 0 ≡ r → joinedOf s (opened total text) r ≡ took o n → Taken text o n
+  chunks-took : (total : Option ℕ) → 8 ≤ length s → (r : Answer Walked) → walkFrom (length s + 1) s (opened total text) 0 ≡ r →
+      joinedOf s (opened total text) r ≡ took o n → Taken text o n
   chunks-took total i (gives x) h e =
       let w = opened total text in
       let c = joinFrom (length s + 1) s w in
@@ -191,7 +198,9 @@ module _ (text : Bool) (s : List ℕ) (o : Option (List ℕ)) (n : ℕ) where
       let q : x .walk .at ≡ n = cc in
       let l : length c ≡ x .walk .sum = omega (arith, join-sums s (length s + 1) w 0 x h) in
       let d : x .walk .ended ≡ true = walk-ends s (length s + 1) w 0 x i (omega arith) h in
-      let f = walk-keeps s (Paid text) (paid text s) (length s + 1) w 0 x h (record { asked = refl; bound = omega arith; cost = omega arith; even = no-truth }) in
+      let f =
+      walk-keeps s (Paid text) (paid text s) (length s + 1) w 0 x h
+      (record { asked = refl; bound = omega arith; cost = omega arith; even = no-truth }) in
       rw (← p, ← q) (content c (x .walk .at) (rw l (f .bound)) (rw l (f .even d)) (rw l (rw d at (f .cost))))
   chunks-took total i (refuses r) h e = no-took r o n e
 

@@ -24,7 +24,8 @@ use Rattle.format.proofs.Utf16.{utf16-one, utf16-two, char16-back, char
 
 -- how many bytes a scalar value has in either form
 module _ (c : ℕ) where
-  pub utf8-length : (P : ℕ → Type 0) → (c < 0x80 → P 1) → (0x80 ≤ c → c < 0x800 → P 2) → (0x800 ≤ c → c < 0x10000 → P 3) → (0x10000 ≤ c → P 4) → P (length (utf8 c))
+  pub utf8-length : (P : ℕ → Type 0) → (c < 0x80 → P 1) → (0x80 ≤ c → c < 0x800 → P 2) → (0x800 ≤ c → c < 0x10000 → P 3) → (0x10000 ≤ c → P 4) →
+      P (length (utf8 c))
   utf8-length P p q r s =
       less c 0x80 (λ i. rw (utf8-one c i) (p i))
       (λ i. less c 0x800 (λ j. rw (utf8-two c i j) (q i j))
@@ -58,13 +59,15 @@ utf16-short c =
 
 pub utf8-short : (c : ℕ) → 2 * length (utf8 c) ≤ 3 * length (utf16 c)
 utf8-short c =
-    utf16-length c (λ n. 2 * length (utf8 c) ≤ 3 * n) (λ i. utf8-length c (λ n. 2 * n ≤ 6) (λ j. omega arith) (λ j k. omega arith) (λ j k. omega arith) (λ j. absurd (omega arith)))
+    utf16-length c (λ n. 2 * length (utf8 c) ≤ 3 * n)
+    (λ i. utf8-length c (λ n. 2 * n ≤ 6) (λ j. omega arith) (λ j k. omega arith) (λ j k. omega arith) (λ j. absurd (omega arith)))
     (λ i. rw (utf8-four c i) (omega arith))
 
 -- ---- a text
 
 -- what a conversion gives, it spells of what it read
-pub converted-gives : (char : List ℕ → Read ℕ) (spell : ℕ → List ℕ) (s u : List ℕ) → converted char spell s ≡ gives u → (cs : List ℕ) × (scalars char 0 s ≡ gives cs) × (spelled spell cs ≡ u)
+pub converted-gives : (char : List ℕ → Read ℕ) (spell : ℕ → List ℕ) (s u : List ℕ) → converted char spell s ≡ gives u →
+    (cs : List ℕ) × (scalars char 0 s ≡ gives cs) × (spelled spell cs ≡ u)
 converted-gives char spell s u h =
     let p = and-took (scalars char 0 s) (λ cs. gives (spelled spell cs)) u h in
     (p .0, p .1, cc (p .2))

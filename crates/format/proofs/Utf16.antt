@@ -26,7 +26,8 @@ module _ (s : List ℕ) where
   lone h e f = rw (le-ltb (length s) 2 h, e, f)
 
   -- a high surrogate and a low one
-  pub pair : 4 ≤ length s → between 0xD800 0xDBFF (unit s) ≡ true → between 0xDC00 0xDFFF (unit (drop 2 s)) ≡ true → char16 s ≡ took (0x10000 + (unit s - 0xD800) * 1024 + (unit (drop 2 s) - 0xDC00)) 4
+  pub pair : 4 ≤ length s → between 0xD800 0xDBFF (unit s) ≡ true → between 0xDC00 0xDFFF (unit (drop 2 s)) ≡ true →
+      char16 s ≡ took (0x10000 + (unit s - 0xD800) * 1024 + (unit (drop 2 s) - 0xDC00)) 4
   unfolding char16
   pair h e f = rw (le-ltb (length s) 2 (omega arith), e, le-ltb (length (drop 2 s)) 2 (omega (arith, length-drop 2 s)), f)
 
@@ -58,11 +59,14 @@ back-two c s h k =
     let u = unit-is a (lowBytes 2 b ++ s) (omega arith) in
     let v = unit-is b s (omega arith) in
     let e : 0x10000 + (a - 0xD800) * 1024 + (b - 0xDC00) ≡ c = omega arith in
-    rw (utf16-two c h) (pair (lowBytes 2 a ++ (lowBytes 2 b ++ s)) (omega arith) (rw u (between-in 0xD800 0xDBFF a (omega arith) (omega arith))) (rw v (between-in 0xDC00 0xDFFF b (omega arith) (omega arith))) ∙ rw (u, v, e))
+    rw (utf16-two c h)
+    (pair (lowBytes 2 a ++ (lowBytes 2 b ++ s)) (omega arith) (rw u (between-in 0xD800 0xDBFF a (omega arith) (omega arith)))
+    (rw v (between-in 0xDC00 0xDFFF b (omega arith) (omega arith))) ∙ rw (u, v, e))
 
 pub char16-back : (c : ℕ) (s : List ℕ) → Scalar c → Back16 c s
 char16-back c s (below h) = back-one c s (omega arith) (between-below 0xD800 0xDBFF c h) (between-below 0xDC00 0xDFFF c (omega arith))
-char16-back c s (above h i) = less c 0x10000 (λ j. back-one c s j (between-above 0xD800 0xDBFF c (omega arith)) (between-above 0xDC00 0xDFFF c h)) (λ j. back-two c s j i)
+char16-back c s (above h i) =
+    less c 0x10000 (λ j. back-one c s j (between-above 0xD800 0xDBFF c (omega arith)) (between-above 0xDC00 0xDFFF c h)) (λ j. back-two c s j i)
 
 -- ---- what is read is a scalar value's units
 
@@ -83,14 +87,16 @@ outside n e f l =
     (λ k. no-truth (sym f ∙ between-in 0xDC00 0xDFFF n j k))))
 
 module _ (c n : ℕ) where
-  forth-pair : (x y : ℕ) (s : List ℕ) → x < 256 → y < 256 → Bytes s → between 0xD800 0xDBFF (unit (x ∷ y ∷ s)) ≡ true → pair16 (unit (x ∷ y ∷ s)) s ≡ took c n → Forth utf16 (x ∷ y ∷ s) c n
+  forth-pair : (x y : ℕ) (s : List ℕ) → x < 256 → y < 256 → Bytes s → between 0xD800 0xDBFF (unit (x ∷ y ∷ s)) ≡ true →
+      pair16 (unit (x ∷ y ∷ s)) s ≡ took c n → Forth utf16 (x ∷ y ∷ s) c n
   forth-pair x y [] i j b e h = no-took notText c n h
   forth-pair x y (p ∷ []) i j b e h = no-took notText c n h
   forth-pair x y (p ∷ q ∷ s) i j b e h =
       let f : ltb (length (p ∷ q ∷ s)) 2 ≡ false = le-ltb (length (p ∷ q ∷ s)) 2 (omega arith) in
       split (between 0xDC00 0xDFFF (unit (p ∷ q ∷ s))) (λ g t. both g t) (λ g t. no-took notText c n t) (rw f at h)
     where
-      both : between 0xDC00 0xDFFF (unit (p ∷ q ∷ s)) ≡ true → took (0x10000 + (unit (x ∷ y ∷ s) - 0xD800) * 1024 + (unit (p ∷ q ∷ s) - 0xDC00)) 4 ≡ took c n → Forth utf16 (x ∷ y ∷ p ∷ q ∷ s) c n
+      both : between 0xDC00 0xDFFF (unit (p ∷ q ∷ s)) ≡ true →
+          took (0x10000 + (unit (x ∷ y ∷ s) - 0xD800) * 1024 + (unit (p ∷ q ∷ s) - 0xDC00)) 4 ≡ took c n → Forth utf16 (x ∷ y ∷ p ∷ q ∷ s) c n
       both g t =
           let a = unit (x ∷ y ∷ p ∷ q ∷ s) in
           let d = unit (p ∷ q ∷ s) in
@@ -114,7 +120,9 @@ module _ (c n : ℕ) where
       (λ e t. split (between 0xDC00 0xDFFF (unit (x ∷ y ∷ s))) (λ g u. no-took notText c n u) (λ g u. one e g u) t)
       (rw f at h)
     where
-      one : between 0xD800 0xDBFF (unit (x ∷ y ∷ s)) ≡ false → between 0xDC00 0xDFFF (unit (x ∷ y ∷ s)) ≡ false → took (unit (x ∷ y ∷ s)) 2 ≡ took c n → Forth utf16 (x ∷ y ∷ s) c n
+      one : between 0xD800 0xDBFF (unit (x ∷ y ∷ s)) ≡ false → between 0xDC00 0xDFFF (unit (x ∷ y ∷ s)) ≡ false →
+          took (unit (x ∷ y ∷ s)) 2 ≡ took c n → Forth utf16 (x ∷ y ∷ s) c n
       one e g u =
           let l : unit (x ∷ y ∷ s) < 0x10000 = omega (arith, b 0, b 1) in
-          forth-is utf16 (x ∷ y ∷ s) (x ∷ y ∷ []) s c n (unit (x ∷ y ∷ s)) 2 refl (utf16-one (unit (x ∷ y ∷ s)) l ∙ unit-bytes x y s (b 0) (b 1)) refl u (outside (unit (x ∷ y ∷ s)) e g l)
+          forth-is utf16 (x ∷ y ∷ s) (x ∷ y ∷ []) s c n (unit (x ∷ y ∷ s)) 2 refl (utf16-one (unit (x ∷ y ∷ s)) l ∙ unit-bytes x y s (b 0) (b 1)) refl
+          u (outside (unit (x ∷ y ∷ s)) e g l)

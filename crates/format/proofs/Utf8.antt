@@ -55,7 +55,8 @@ tail-in : (m n k b : ℕ) (s : List ℕ) → 0x80 ≤ b → b ≤ 0xBF → tail8
 tail-in m n k b s h l = rw (between-in 0x80 0xBF b h l)
 
 -- the characters of two, three and four bytes, by the row that the first byte chooses
-module _ (k a b : ℕ) (p : Past k wellFormed a) (w : Within k wellFormed a) (f : 0x80 ≤ a) (l : rowAt k wellFormed .low ≤ b) (h : b ≤ rowAt k wellFormed .high) where
+module _ (k a b : ℕ) (p : Past k wellFormed a) (w : Within k wellFormed a) (f : 0x80 ≤ a) (l : rowAt k wellFormed .low ≤ b)
+    (h : b ≤ rowAt k wellFormed .high) where
   abbrev second : ℕ
   second = (a - rowAt k wellFormed .marker) * 64 + (b - 0x80)
 
@@ -68,7 +69,8 @@ module _ (k a b : ℕ) (p : Past k wellFormed a) (w : Within k wellFormed a) (f 
   three : (d : ℕ) (s : List ℕ) → rowAt k wellFormed .more ≡ 1 → 0x80 ≤ d → d ≤ 0xBF → char8 (a ∷ b ∷ d ∷ s) ≡ took (second * 64 + (d - 0x80)) 3
   three d s e m n = past-second (d ∷ s) ∙ rw e (tail-in 0 second 2 d s m n)
 
-  four : (d x : ℕ) (s : List ℕ) → rowAt k wellFormed .more ≡ 2 → 0x80 ≤ d → d ≤ 0xBF → 0x80 ≤ x → x ≤ 0xBF → char8 (a ∷ b ∷ d ∷ x ∷ s) ≡ took ((second * 64 + (d - 0x80)) * 64 + (x - 0x80)) 4
+  four : (d x : ℕ) (s : List ℕ) → rowAt k wellFormed .more ≡ 2 → 0x80 ≤ d → d ≤ 0xBF → 0x80 ≤ x → x ≤ 0xBF →
+      char8 (a ∷ b ∷ d ∷ x ∷ s) ≡ took ((second * 64 + (d - 0x80)) * 64 + (x - 0x80)) 4
   four d x s e m n o q = past-second (d ∷ x ∷ s) ∙ rw e (tail-in 1 second 2 d (x ∷ s) m n ∙ tail-in 0 (second * 64 + (d - 0x80)) 3 x s o q)
 
 -- ---- UTF-8: the bytes of a scalar value
@@ -102,19 +104,24 @@ module _ (c : ℕ) where
         let e : (0xC0 + c / 64 - 0xC0) * 64 + (0x80 + c % 64 - 0x80) ≡ c = omega arith in
         rw (utf8-two h k) (two 0 (0xC0 + c / 64) (0x80 + c % 64) tt (omega arith) (omega arith) (omega arith) (omega arith) s refl ∙ rw e)
 
-    back-three : (k : ℕ) → 0x800 ≤ c → c < 0x10000 → rowAt k wellFormed .marker ≡ 0xE0 → rowAt k wellFormed .more ≡ 1 → Past k wellFormed (0xE0 + c / 4096) → Within k wellFormed (0xE0 + c / 4096)
+    back-three : (k : ℕ) → 0x800 ≤ c → c < 0x10000 → rowAt k wellFormed .marker ≡ 0xE0 → rowAt k wellFormed .more ≡ 1 →
+        Past k wellFormed (0xE0 + c / 4096) → Within k wellFormed (0xE0 + c / 4096)
         → rowAt k wellFormed .low ≤ 0x80 + c / 64 % 64 → 0x80 + c / 64 % 64 ≤ rowAt k wellFormed .high → Back8
     back-three k h j m e p w l g =
         let v : ((0xE0 + c / 4096 - 0xE0) * 64 + (0x80 + c / 64 % 64 - 0x80)) * 64 + (0x80 + c % 64 - 0x80) ≡ c = omega arith in
         rw (utf8-three h j) (three k (0xE0 + c / 4096) (0x80 + c / 64 % 64) p w (omega arith) l g (0x80 + c % 64) s e (omega arith) (omega arith) ∙ rw (m, v))
 
-    back-four : (k : ℕ) → 0x10000 ≤ c → rowAt k wellFormed .marker ≡ 0xF0 → rowAt k wellFormed .more ≡ 2 → Past k wellFormed (0xF0 + c / 262144) → Within k wellFormed (0xF0 + c / 262144)
+    back-four : (k : ℕ) → 0x10000 ≤ c → rowAt k wellFormed .marker ≡ 0xF0 → rowAt k wellFormed .more ≡ 2 → Past k wellFormed (0xF0 + c / 262144) →
+        Within k wellFormed (0xF0 + c / 262144)
         → rowAt k wellFormed .low ≤ 0x80 + c / 4096 % 64 → 0x80 + c / 4096 % 64 ≤ rowAt k wellFormed .high → Back8
     back-four k h m e p w l g =
         let x : c / 262144 * 64 + c / 4096 % 64 ≡ c / 4096 = omega arith in
         let y : c / 4096 * 64 + c / 64 % 64 ≡ c / 64 = omega arith in
-        let v : (((0xF0 + c / 262144 - 0xF0) * 64 + (0x80 + c / 4096 % 64 - 0x80)) * 64 + (0x80 + c / 64 % 64 - 0x80)) * 64 + (0x80 + c % 64 - 0x80) ≡ c = omega arith in
-        rw (utf8-four h) (four k (0xF0 + c / 262144) (0x80 + c / 4096 % 64) p w (omega arith) l g (0x80 + c / 64 % 64) (0x80 + c % 64) s e (omega arith) (omega arith) (omega arith) (omega arith) ∙ rw (m, v))
+        let v : (((0xF0 + c / 262144 - 0xF0) * 64 + (0x80 + c / 4096 % 64 - 0x80)) * 64 + (0x80 + c / 64 % 64 - 0x80)) * 64 + (0x80 + c % 64 - 0x80) ≡ c =
+        omega arith in
+        rw (utf8-four h)
+        (four k (0xF0 + c / 262144) (0x80 + c / 4096 % 64) p w (omega arith) l g (0x80 + c / 64 % 64) (0x80 + c % 64) s e (omega arith) (omega arith)
+        (omega arith) (omega arith) ∙ rw (m, v))
 
 -- a character's bytes are read back
 pub char8-back : (c : ℕ) (s : List ℕ) → Scalar c → char8 (utf8 c ++ s) ≡ took c (length (utf8 c))
@@ -140,7 +147,8 @@ two-is a b f e l h =
     let y : 0x80 + c % 64 ≡ b = omega arith in
     utf8-two c (omega arith) (omega arith) ∙ rw (x, y)
 
-three-is : (a b d : ℕ) → 0xE0 ≤ a → a ≤ 0xEF → 0x80 ≤ b → b ≤ 0xBF → 0x80 ≤ d → d ≤ 0xBF → 0x800 ≤ ((a - 0xE0) * 64 + (b - 0x80)) * 64 + (d - 0x80) → utf8 (((a - 0xE0) * 64 + (b - 0x80)) * 64 + (d - 0x80)) ≡ a ∷ b ∷ d ∷ []
+three-is : (a b d : ℕ) → 0xE0 ≤ a → a ≤ 0xEF → 0x80 ≤ b → b ≤ 0xBF → 0x80 ≤ d → d ≤ 0xBF →
+    0x800 ≤ ((a - 0xE0) * 64 + (b - 0x80)) * 64 + (d - 0x80) → utf8 (((a - 0xE0) * 64 + (b - 0x80)) * 64 + (d - 0x80)) ≡ a ∷ b ∷ d ∷ []
 three-is a b d f e l h m o g =
     let c = ((a - 0xE0) * 64 + (b - 0x80)) * 64 + (d - 0x80) in
     let x : 0xE0 + c / 4096 ≡ a = omega arith in
@@ -148,7 +156,8 @@ three-is a b d f e l h m o g =
     let z : 0x80 + c % 64 ≡ d = omega arith in
     utf8-three c g (omega arith) ∙ rw (x, y, z)
 
-four-is : (a b d t : ℕ) → 0xF0 ≤ a → 0x80 ≤ b → b ≤ 0xBF → 0x80 ≤ d → d ≤ 0xBF → 0x80 ≤ t → t ≤ 0xBF → 0x10000 ≤ (((a - 0xF0) * 64 + (b - 0x80)) * 64 + (d - 0x80)) * 64 + (t - 0x80)
+four-is : (a b d t : ℕ) → 0xF0 ≤ a → 0x80 ≤ b → b ≤ 0xBF → 0x80 ≤ d → d ≤ 0xBF → 0x80 ≤ t → t ≤ 0xBF →
+    0x10000 ≤ (((a - 0xF0) * 64 + (b - 0x80)) * 64 + (d - 0x80)) * 64 + (t - 0x80)
     → utf8 ((((a - 0xF0) * 64 + (b - 0x80)) * 64 + (d - 0x80)) * 64 + (t - 0x80)) ≡ a ∷ b ∷ d ∷ t ∷ []
 four-is a b d t f l h m o i j g =
     let v = (a - 0xF0) * 64 + (b - 0x80) in
@@ -168,13 +177,17 @@ abbrev Stands : ℕ → ℕ → List ℕ → (ℕ → List ℕ → Type 0) → T
 Stands low high s Then = (b : ℕ) × (t : List ℕ) × (s ≡ b ∷ t) × (low ≤ b) × (b ≤ high) × Then b t
 
 module _ (c n : ℕ) where
-  second-took : (r : Row) (m o a : ℕ) (s : List ℕ) → r .marker ≡ m → r .more ≡ o → second8 r a s ≡ took c n → Stands (r .low) (r .high) s (λ b t. tail8 o ((a - m) * 64 + (b - 0x80)) 2 t ≡ took c n)
+  second-took : (r : Row) (m o a : ℕ) (s : List ℕ) → r .marker ≡ m → r .more ≡ o → second8 r a s ≡ took c n →
+      Stands (r .low) (r .high) s (λ b t. tail8 o ((a - m) * 64 + (b - 0x80)) 2 t ≡ took c n)
   second-took r m o a [] i j h = no-took notText c n h
-  second-took r m o a (b ∷ s) i j h = split (between (r .low) (r .high) b) (λ e q. let k = in-between (r .low) (r .high) b e in (b, s, refl, k .0, k .1, rw (i, j) at q)) (λ e q. no-took notText c n q) h
+  second-took r m o a (b ∷ s) i j h =
+      split (between (r .low) (r .high) b) (λ e q. let k = in-between (r .low) (r .high) b e in (b, s, refl, k .0, k .1, rw (i, j) at q))
+      (λ e q. no-took notText c n q) h
 
   tail-took : (m x k : ℕ) (s : List ℕ) → tail8 (suc m) x k s ≡ took c n → Stands 0x80 0xBF s (λ b t. tail8 m (x * 64 + (b - 0x80)) (suc k) t ≡ took c n)
   tail-took m x k [] h = no-took notText c n h
-  tail-took m x k (b ∷ s) h = split (between 0x80 0xBF b) (λ e q. let i = in-between 0x80 0xBF b e in (b, s, refl, i .0, i .1, q)) (λ e q. no-took notText c n q) h
+  tail-took m x k (b ∷ s) h =
+      split (between 0x80 0xBF b) (λ e q. let i = in-between 0x80 0xBF b e in (b, s, refl, i .0, i .1, q)) (λ e q. no-took notText c n q) h
 
   -- by the rows of the table
   abbrev Rows : Type 0 → ℕ → List ℕ → List Row → Type 0
@@ -183,7 +196,8 @@ module _ (c n : ℕ) where
 
   by-row : (P : Type 0) (a : ℕ) (s : List ℕ) (rs : List Row) → Rows P a s rs → among8 rs a s ≡ took c n → P
   by-row P a s [] f h = no-took notText c n h
-  by-row P a s (r ∷ rs) f h = split (between (r .first) (r .last) a) (λ e q. let i = in-between (r .first) (r .last) a e in f .0 (i .0) (i .1) q) (λ e q. by-row P a s rs (f .1) q) h
+  by-row P a s (r ∷ rs) f h =
+      split (between (r .first) (r .last) a) (λ e q. let i = in-between (r .first) (r .last) a e in f .0 (i .0) (i .1) q) (λ e q. by-row P a s rs (f .1) q) h
 
   module _ (r : Row) (a : ℕ) (s : List ℕ) where
     forth-two : r .marker ≡ 0xC0 → r .more ≡ 0 → 0x80 ≤ r .low → r .high ≤ 0xBF → 0xC2 ≤ a → a ≤ 0xDF → second8 r a s ≡ took c n → Forth utf8 (a ∷ s) c n
@@ -192,7 +206,8 @@ module _ (c n : ℕ) where
         let b = p .0 in
         let i : 0x80 ≤ b = omega (arith, p .3) in
         let j : b ≤ 0xBF = omega (arith, p .4) in
-        forth-is utf8 (a ∷ s) (a ∷ b ∷ []) (p .1) c n ((a - 0xC0) * 64 + (b - 0x80)) 2 (ap (_∷_ a) (p .2)) (two-is a b f e i j) refl (p .5) (below (omega arith))
+        forth-is utf8 (a ∷ s) (a ∷ b ∷ []) (p .1) c n ((a - 0xC0) * 64 + (b - 0x80)) 2 (ap (_∷_ a) (p .2)) (two-is a b f e i j) refl (p .5)
+        (below (omega arith))
 
     forth-three : r .marker ≡ 0xE0 → r .more ≡ 1 → 0x80 ≤ r .low → r .high ≤ 0xBF → 0xE0 ≤ a → a ≤ 0xEF
         → ((b x : ℕ) → r .low ≤ b → b ≤ r .high → x < 64 → (0x800 ≤ ((a - 0xE0) * 64 + (b - 0x80)) * 64 + x) × Scalar (((a - 0xE0) * 64 + (b - 0x80)) * 64 + x))
@@ -206,10 +221,13 @@ module _ (c n : ℕ) where
         let i : 0x80 ≤ b = omega (arith, p .3) in
         let j : b ≤ 0xBF = omega (arith, p .4) in
         let z = scalar b (d - 0x80) (p .3) (p .4) (omega (arith, q .4)) in
-        forth-is utf8 (a ∷ s) (a ∷ b ∷ d ∷ []) (q .1) c n (v * 64 + (d - 0x80)) 3 (ap (_∷_ a) (p .2 ∙ ap (_∷_ b) (q .2))) (three-is a b d f e i j (q .3) (q .4) (z .0)) refl (q .5) (z .1)
+        forth-is utf8 (a ∷ s) (a ∷ b ∷ d ∷ []) (q .1) c n (v * 64 + (d - 0x80)) 3 (ap (_∷_ a) (p .2 ∙ ap (_∷_ b) (q .2)))
+        (three-is a b d f e i j (q .3) (q .4) (z .0)) refl (q .5) (z .1)
 
     forth-four : r .marker ≡ 0xF0 → r .more ≡ 2 → 0x80 ≤ r .low → r .high ≤ 0xBF → 0xF0 ≤ a
-        → ((b x : ℕ) → r .low ≤ b → b ≤ r .high → x < 4096 → (0x10000 ≤ ((a - 0xF0) * 64 + (b - 0x80)) * 4096 + x) × (((a - 0xF0) * 64 + (b - 0x80)) * 4096 + x ≤ 0x10FFFF))
+        →
+        ((b x : ℕ) → r .low ≤ b → b ≤ r .high → x < 4096 → (0x10000 ≤ ((a - 0xF0) * 64 + (b - 0x80)) * 4096 + x) ×
+        (((a - 0xF0) * 64 + (b - 0x80)) * 4096 + x ≤ 0x10FFFF))
         → second8 r a s ≡ took c n → Forth utf8 (a ∷ s) c n
     forth-four m o l g f scalar h =
         let p = second-took r 0xF0 2 a s m o h in
@@ -229,7 +247,9 @@ module _ (c n : ℕ) where
   pub char8-forth : (s : List ℕ) → char8 s ≡ took c n → Forth utf8 s c n
   unfolding char8
   char8-forth [] h = no-took notText c n h
-  char8-forth (a ∷ s) h = split (ltb a 0x80) (λ e q. forth-is utf8 (a ∷ s) (a ∷ []) s c n a 1 refl (utf8-one a (ltb-true a 0x80 e)) refl q (below (omega (arith, ltb-true a 0x80 e))))
+  char8-forth (a ∷ s) h =
+      split (ltb a 0x80)
+      (λ e q. forth-is utf8 (a ∷ s) (a ∷ []) s c n a 1 refl (utf8-one a (ltb-true a 0x80 e)) refl q (below (omega (arith, ltb-true a 0x80 e))))
       (λ e q. by-row (Forth utf8 (a ∷ s) c n) a s wellFormed (
         (λ f l. forth-two (rowAt 0 wellFormed) a s refl refl (omega arith) (omega arith) f l),
         (

@@ -12,8 +12,10 @@ use Prim.Native.Nat.{ℕ, _+_, _^_, _<_, _≤_}
 use lib.ListN.{length}
 use borrow.Author.Tests.{ltb-true, not-false}
 use Rattle.format.specs.Answer.{took, rule, notCarried}
-use Rattle.format.specs.Descriptor.{FixedLen, ByteLen, UShortLen, TypeId, fixedLen, byteLen, uShortLen, longLen, daten, xml, udt, ssVariant, Column, lengthFits, keepsRule}
-use Rattle.format.specs.Value.{Value, Family, fixedWidth, lengthByte, content, fixedFamily, byteLenFamily, uShortLenFamily, familyOf, readFamily, readValue, encodeFamily, encode}
+use Rattle.format.specs.Descriptor.{FixedLen, ByteLen, UShortLen, TypeId, fixedLen, byteLen, uShortLen, longLen, daten, xml, udt, ssVariant}
+use Rattle.format.specs.Descriptor.{Column, lengthFits, keepsRule}
+use Rattle.format.specs.Value.{Value, Family, fixedWidth, lengthByte, content, fixedFamily, byteLenFamily, uShortLenFamily, familyOf}
+use Rattle.format.specs.Value.{readFamily, readValue, encodeFamily, encode}
 use Rattle.format.proofs.Number.{Bytes}
 use Rattle.format.proofs.Place.{past, no-took}
 use Rattle.format.proofs.Codec.{Codec}

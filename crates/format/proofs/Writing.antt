@@ -21,7 +21,8 @@ use Rattle.format.specs.Answer.{Answer, gives, refuses, took, missing, k
 use Rattle.format.specs.Text.{textIn}
 use Rattle.format.specs.Descriptor.{Column, keepsRule}
 use Rattle.format.specs.Scalar.{Kind, kindOf, width}
-use Rattle.format.specs.Value.{Value, Given, ContentKind, Family, fixedWidth, lengthByte, content, familyOf, contentBound, readValue, encodeIn, encode, kindFits, stringOf, valueOf, tooLong, bounded, writeFamily, writeValue}
+use Rattle.format.specs.Value.{Value, Given, ContentKind, Family, fixedWidth, lengthByte, content, familyOf, contentBound, readValue, encodeIn}
+use Rattle.format.specs.Value.{encode, kindFits, stringOf, valueOf, tooLong, bounded, writeFamily, writeValue}
 use Rattle.format.specs.Row.{maxColumns, readRow, joinTwo, writeValues, writeRow}
 use Rattle.format.specs.Normal.{encodeRow, normal}
 use Rattle.format.proofs.Answer.{no-truth, no-gives, passed, and-took}
@@ -53,7 +54,8 @@ module _ (n : ℕ) (v : Value) where
   wrote-fixed k (Given.binary p) r h e = no-truth h
   wrote-fixed k (Given.string p) r h e = no-truth h
 
-  wrote-listed : (ks : List Kind) (g : Given) → Ranged g → kindFits (lengthByte ks) g ≡ true → valueOf g ≡ gives v → tooLong n (lengthByte ks) v ≡ false → Listeds.Listed ks n v
+  wrote-listed : (ks : List Kind) (g : Given) → Ranged g → kindFits (lengthByte ks) g ≡ true → valueOf g ≡ gives v →
+      tooLong n (lengthByte ks) v ≡ false → Listeds.Listed ks n v
   wrote-listed ks Given.null r h e l = let p : Value.null ≡ v = cc in rw (← p) Listeds.null
   wrote-listed ks (Given.scalar x) r h e l =
       let p : Value.scalar x ≡ v = cc in
@@ -89,7 +91,8 @@ abbrev Wrote : Column → Given → List ℕ → Type 0
 Wrote c g bytes = (v : Value) × (valueOf g ≡ gives v) × Fit c v × (encode c v ≡ bytes)
 
 module _ (c : Column) (g : Given) (bytes : List ℕ) (r : Ranged g) where
-  wrote-given : (f : Family) → familyOf (c .type) ≡ some f → keepsRule c ≡ true → kindFits f g ≡ true → (a : Answer Value) → valueOf g ≡ a → andThen a (bounded (c .length) f) ≡ gives bytes → Wrote c g bytes
+  wrote-given : (f : Family) → familyOf (c .type) ≡ some f → keepsRule c ≡ true → kindFits f g ≡ true → (a : Answer Value) → valueOf g ≡ a →
+      andThen a (bounded (c .length) f) ≡ gives bytes → Wrote c g bytes
   unfolding encode
   wrote-given f t k i (gives v) e h =
       let p = passed (tooLong (c .length) f v) long (gives (encodeIn (c .length) f v)) bytes h in
@@ -140,7 +143,8 @@ join-took : (a : Answer (List ℕ)) (first bytes : List ℕ) → joinTwo a first
 join-took (gives rest) first bytes h = (rest, refl, cc)
 join-took (refuses e) first bytes h = no-gives e bytes h
 
-wrote-all : (cs : List Column) (gs : List Given) (bytes : List ℕ) → length cs ≡ length gs → RangedAll gs → writeValues cs gs ≡ gives bytes → WroteAll cs gs bytes
+wrote-all : (cs : List Column) (gs : List Given) (bytes : List ℕ) → length cs ≡ length gs → RangedAll gs → writeValues cs gs ≡ gives bytes →
+    WroteAll cs gs bytes
 unfolding writeValues encodeRow
 wrote-all [] [] bytes l r h = ([], tt, tt, cc)
 wrote-all [] (g ∷ gs) bytes l r h = absurd (omega arith)

@@ -47,7 +47,8 @@ type-undoes P.Sspi = refl
 type-undoes P.Prelogin = refl
 
 abbrev statusBack : ℕ → PacketStatus
-statusBack n = pick (eqb n 0) S.Normal (pick (eqb n 1) S.EndOfMessage (pick (eqb n 3) S.IgnoreEvent (pick (eqb n 8) S.ResetConnection S.ResetConnectionSkipTran)))
+statusBack n =
+    pick (eqb n 0) S.Normal (pick (eqb n 1) S.EndOfMessage (pick (eqb n 3) S.IgnoreEvent (pick (eqb n 8) S.ResetConnection S.ResetConnectionSkipTran)))
 
 status-undoes : Undoes statusByte statusBack
 status-undoes S.Normal = refl

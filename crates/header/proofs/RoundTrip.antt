@@ -42,7 +42,8 @@ status-listed S.IgnoreEvent = refl
 status-listed S.ResetConnection = refl
 status-listed S.ResetConnectionSkipTran = refl
 
-pub header-back : (h : Header) (rest : List ℕ) → h .length < 2 ^ 16 → h .spid < 2 ^ 16 → readHeader (headerBytes (headerFields h) ++ rest) ≡ took (headerFields h) 8
+pub header-back : (h : Header) (rest : List ℕ) → h .length < 2 ^ 16 → h .spid < 2 ^ 16 →
+    readHeader (headerBytes (headerFields h) ++ rest) ≡ took (headerFields h) 8
 header-back h rest l p =
     let s = headerBytes (headerFields h) ++ rest in
     header-there s (omega arith) (type-listed (h .ty)) (status-listed (h .status))

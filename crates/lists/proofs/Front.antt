@@ -7,7 +7,8 @@ use native.Mathlib.Omega.{arith}
 use native.Mathlib.Nat.{add-zero, zero-add, add-suc, suc-add}
 use native.Mathlib.Numerals.{add-one}
 use lib.ListN.{length, getD, set, take, drop, length-append, length-take, length-drop}
-use lib.Seq.{set-split, set-at, drop-cons, take-suc, drop-append-add, take-add, drop-drop, take-at, drop-at, length-take-le, take-append-seam, drop-append-seam, take-length, sets, sets-eq}
+use lib.Seq.{set-split, set-at, drop-cons, take-suc, drop-append-add, take-add, drop-drop, take-at, drop-at, length-take-le, take-append-seam}
+use lib.Seq.{drop-append-seam, take-length, sets, sets-eq}
 use Rattle.lists.specs.Put.{putAt, front}
 
 -- a run of stores is a list put at a place
@@ -51,7 +52,8 @@ pub record Grown (j out₀ c rest new : List ℕ) (o m : ℕ) : Type 0 where
   pub holds : new ≡ front j (o + m) out₀
   pub left : drop (o + m) j ≡ rest
 
-pub grown : (j out out₀ c rest new : List ℕ) (o m : ℕ) → length c ≡ m → o ≤ length j → length j ≤ length out₀ → length out ≡ length out₀ → out ≡ front j o out₀ → drop o j ≡ c ++ rest → new ≡ putAt out o c → Grown j out₀ c rest new o m
+pub grown : (j out out₀ c rest new : List ℕ) (o m : ℕ) → length c ≡ m → o ≤ length j → length j ≤ length out₀ → length out ≡ length out₀ →
+    out ≡ front j o out₀ → drop o j ≡ c ++ rest → new ≡ putAt out o c → Grown j out₀ c rest new o m
 grown j out out₀ c rest new o m l h k z e d n =
     let r = room-more j out out₀ c rest o h k e d in
     record {

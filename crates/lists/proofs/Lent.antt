@@ -20,5 +20,6 @@ lent-back out o c =
     let z : postOf o (length out - o) out ≡ [] = drop-of-length-le (drop o out) {i = length out - o} (simp length-drop (omega arith)) in
     simp (z, append-nil, rest-is out o, drop-drop (length c) o out)
 
-pub lent-put : (out ys : List ℕ) (o : ℕ) (c : List ℕ) → ys ≡ c ++ drop (length c) (midOf o (length out - o) out) → putMid o (length out - o) out ys ≡ putAt out o c
+pub lent-put : (out ys : List ℕ) (o : ℕ) (c : List ℕ) → ys ≡ c ++ drop (length c) (midOf o (length out - o) out) →
+    putMid o (length out - o) out ys ≡ putAt out o c
 lent-put out ys o c e = ap (putMid o (length out - o) out) e ∙ lent-back out o c

@@ -35,7 +35,11 @@ module _ (out : List ℕ) where
       ∙ sets-more out 0 ((a ++ b) ++ c) d)
 
   pub data-stored : (at : ℕ) (p : Prelogin) →
-      sets (sets (sets (sets (sets out at (highBytes 4 (p .version))) (at + 4) (highBytes 2 (p .«sub_build»))) (at + 6) (encryptionNumber (p .encryption) ∷ [])) (at + 7) (highBytes 4 (p .«thread_id»))) (at + 11) (pick (p .mars) 1 0 ∷ [])
+      sets
+      (sets
+      (sets (sets (sets out at (highBytes 4 (p .version))) (at + 4) (highBytes 2 (p .«sub_build»))) (at + 6) (encryptionNumber (p .encryption) ∷ []))
+      (at + 7) (highBytes 4 (p .«thread_id»)))
+      (at + 11) (pick (p .mars) 1 0 ∷ [])
       ≡ sets out at (dataBytes p)
   unfolding dataBytes
   data-stored at p =

@@ -37,4 +37,5 @@ tableBytes start = ((entryBytes 0 start 6 ++ entryBytes 1 (start + 6) 1) ++ entr
 -- the data of these four
 unfoldable pub dataBytes : Prelogin → List ℕ
 dataBytes p =
-    (((highBytes 4 (p .version) ++ highBytes 2 (p .«sub_build»)) ++ (encryptionNumber (p .encryption) ∷ [])) ++ highBytes 4 (p .«thread_id»)) ++ (pick (p .mars) 1 0 ∷ [])
+    (((highBytes 4 (p .version) ++ highBytes 2 (p .«sub_build»)) ++ (encryptionNumber (p .encryption) ∷ [])) ++ highBytes 4 (p .«thread_id»)) ++
+    (pick (p .mars) 1 0 ∷ [])

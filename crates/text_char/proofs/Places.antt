@@ -43,7 +43,8 @@ module _ (s : List ℕ) (at : ℕ) where
         go [] e = refl
         go (b ∷ t) e = rw e
 
-    pub second-is : standsIn (r .low) (r .high) (drop at s) ≡ true → second8 r a (drop at s) ≡ tail8 (r .more) ((a - r .marker) * 64 + (getD s at 0 - 0x80)) 2 (drop (at + 1) s)
+    pub second-is : standsIn (r .low) (r .high) (drop at s) ≡ true →
+        second8 r a (drop at s) ≡ tail8 (r .more) ((a - r .marker) * 64 + (getD s at 0 - 0x80)) 2 (drop (at + 1) s)
     second-is e =
         let h = stands-true (r .low) (r .high) e in
         let n = drop-next (h .0) in
@@ -73,7 +74,8 @@ module _ (s : List ℕ) (at : ℕ) where
     pub char8-ascii : getD s at 0 < 0x80 → took (getD s at 0) 1 ≡ char8 (drop at s)
     char8-ascii k = sym (ap char8 (drop-next h) ∙ first-ascii (getD s at 0) (drop (at + 1) s) k)
 
-    pub char8-row : (r : T.Row) → 0x80 ≤ getD s at 0 → leadIn wellFormed (getD s at 0) ≡ chosen r → second8 r (getD s at 0) (drop (at + 1) s) ≡ char8 (drop at s)
+    pub char8-row : (r : T.Row) → 0x80 ≤ getD s at 0 → leadIn wellFormed (getD s at 0) ≡ chosen r →
+        second8 r (getD s at 0) (drop (at + 1) s) ≡ char8 (drop at s)
     char8-row r k e = sym (ap char8 (drop-next h) ∙ lead-row (getD s at 0) (drop (at + 1) s) r k e)
 
     pub char8-none : 0x80 ≤ getD s at 0 → leadIn wellFormed (getD s at 0) ≡ none → stops notText ≡ char8 (drop at s)
@@ -108,5 +110,6 @@ module _ (s : List ℕ) (at a x : ℕ) (r : T.Row) (e : x ≡ getD s at 0 - 0x80
     pub fourth-not : r .more ≡ 2 → standsIn 0x80 0xBF (drop (at + 2) s) ≡ false → stops notText ≡ second8 r a (drop at s)
     fourth-not o k = sym (third-is 1 o ∙ tail-not s (at + 2) 0 (second * 64 + y) 3 k)
 
-    pub rest-four : (z : ℕ) → z ≡ getD s (at + 2) 0 - 0x80 → r .more ≡ 2 → standsIn 0x80 0xBF (drop (at + 2) s) ≡ true → took ((second * 64 + y) * 64 + z) 4 ≡ second8 r a (drop at s)
+    pub rest-four : (z : ℕ) → z ≡ getD s (at + 2) 0 - 0x80 → r .more ≡ 2 → standsIn 0x80 0xBF (drop (at + 2) s) ≡ true →
+        took ((second * 64 + y) * 64 + z) 4 ≡ second8 r a (drop at s)
     rest-four z k o l = sym (third-is 1 o ∙ (tail-is s (at + 2) 0 (second * 64 + y) 3 l ∙ rw k))

@@ -56,7 +56,8 @@ by-lead P (q ∷ rs) a r f h =
     h
 
 pub led : (a : ℕ) (r : T.Row) → leadIn wellFormed a ≡ chosen r → Led a r
-led a r h = by-lead (Led a) wellFormed a r (omega arith, (omega arith, (omega arith, (omega arith, (omega arith, (omega arith, (omega arith, (omega arith, tt)))))))) h
+led a r h =
+    by-lead (Led a) wellFormed a r (omega arith, (omega arith, (omega arith, (omega arith, (omega arith, (omega arith, (omega arith, (omega arith, tt)))))))) h
 
 -- ---- the character, by its first byte
 

@@ -131,7 +131,8 @@ module _ {char : List ℕ → Read ℕ} {spell : ℕ → List ℕ} {s j out₀ o
         q : andThen (converted char spell (drop (at + k) s)) (λ u. gives (spell c ++ u)) ≡ gives (drop o j)
         q = sym (from-took char spell s at c k r) ∙ w .left
 
-        go : (a : Answer (List ℕ)) → converted char spell (drop (at + k) s) ≡ a → (rest : List ℕ) × (drop o j ≡ spell c ++ rest) × (converted char spell (drop (at + k) s) ≡ gives rest)
+        go : (a : Answer (List ℕ)) → converted char spell (drop (at + k) s) ≡ a →
+            (rest : List ℕ) × (drop o j ≡ spell c ++ rest) × (converted char spell (drop (at + k) s) ≡ gives rest)
         go (gives u) f = let g : gives (spell c ++ u) ≡ gives (drop o j) = sym (rw f) ∙ q in (u, cc, f)
         go (refuses x) f = no-gives x (drop o j) (sym (rw f) ∙ q)
 

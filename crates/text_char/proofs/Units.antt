@@ -15,7 +15,8 @@ use Rattle.text_char.proofs.Places.{drop-next}
 
 pub unit-there : (s : List ℕ) (at : ℕ) → at + 2 ≤ length s → getD s at 0 + getD s (at + 1) 0 * 256 ≡ unit (drop at s)
 unit-there s at h =
-    let e : drop at s ≡ getD s at 0 ∷ getD s (at + 1) 0 ∷ drop (at + 1 + 1) s = drop-next s at (omega arith) ∙ ap (_∷_ (getD s at 0)) (drop-next s (at + 1) (omega arith)) in
+    let e : drop at s ≡ getD s at 0 ∷ getD s (at + 1) 0 ∷ drop (at + 1 + 1) s =
+    drop-next s at (omega arith) ∙ ap (_∷_ (getD s at 0)) (drop-next s (at + 1) (omega arith)) in
     rw e (omega arith)
 
 -- the unit behind a high surrogate

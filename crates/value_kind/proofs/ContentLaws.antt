@@ -15,7 +15,8 @@ use Rattle.format.specs.Number.{lowBytes}
 use Rattle.format.specs.Text.{textIn}
 use Rattle.format.specs.Plp.{plpMark, plpNull, plpBytes}
 use Rattle.format.specs.Scalar.{Kind}
-use Rattle.format.specs.Value.{ContentKind, Given, fixedWidth, lengthByte, content, contentBound, shortNull, encodeContent, bounded, stringOf, writeFamily, untypedLength, untypedBinary, untypedString, untypedText, writeUntyped}
+use Rattle.format.specs.Value.{ContentKind, Given, fixedWidth, lengthByte, content, contentBound, shortNull, encodeContent, bounded, stringOf}
+use Rattle.format.specs.Value.{writeFamily, untypedLength, untypedBinary, untypedString, untypedText, writeUntyped}
 use Rattle.format.proofs.Text.{in-short}
 use Rattle.value_kind.specs.Form.{givenOf, sameContent, encoded, encodedPart, formed, framed, shortUpTo, untypedHead, untypedLimit}
 
@@ -59,12 +60,14 @@ in-form d c = go (eqb d plpMark)
     go true = refl
     go false = refl
 
-text-bounded : (d : ℕ) (a : Answer (List ℕ)) → andThen (stringOf a) (bounded d (content ContentKind.string)) ≡ andThen a (framed [] (eqb d plpMark) (contentBound d))
+text-bounded : (d : ℕ) (a : Answer (List ℕ)) →
+    andThen (stringOf a) (bounded d (content ContentKind.string)) ≡ andThen a (framed [] (eqb d plpMark) (contentBound d))
 unfolding framed
 text-bounded d (gives c) = ap (λ (l : List ℕ). refuseIf (ltb (contentBound d) (length c)) long (gives l)) (in-form d c)
 text-bounded d (refuses e) = refl
 
-pub content-framed : (d : ℕ) (k : ContentKind) (p : Part) → writeFamily d (some (content k)) (givenOf k p) ≡ andThen (encodedPart k p) (framed [] (eqb d plpMark) (contentBound d))
+pub content-framed : (d : ℕ) (k : ContentKind) (p : Part) →
+    writeFamily d (some (content k)) (givenOf k p) ≡ andThen (encodedPart k p) (framed [] (eqb d plpMark) (contentBound d))
 unfolding framed
 content-framed d ContentKind.binary (inside s) = ap (λ (l : List ℕ). refuseIf (ltb (contentBound d) (length s)) long (gives l)) (in-form d s)
 content-framed d ContentKind.binary outside = refl
@@ -79,12 +82,14 @@ content-size d j k p plp bound x i e f h = rw (e, f) at h ∙ rw (i, content-fra
 -- ---- without a type
 
 -- short content is within its declared length: a byte of UTF-8 is at most two of UTF-16LE
-untyped-binary : (s : List ℕ) (b : Bool) → leb (length s) (shortUpTo ContentKind.binary) ≡ b → writeUntyped (Given.binary (inside s)) ≡ framed (untypedHead ContentKind.binary b) (not b) (untypedLimit b) s
+untyped-binary : (s : List ℕ) (b : Bool) → leb (length s) (shortUpTo ContentKind.binary) ≡ b →
+    writeUntyped (Given.binary (inside s)) ≡ framed (untypedHead ContentKind.binary b) (not b) (untypedLimit b) s
 unfolding writeUntyped framed
 untyped-binary s true e = let t = le-ltb untypedLength (length s) (leb-true (length s) untypedBinary e) in rw (e, t)
 untyped-binary s false e = rw e
 
-untyped-string : (s : List ℕ) (b : Bool) → leb (length s) (shortUpTo ContentKind.string) ≡ b → (a : Answer (List ℕ)) → textIn s ≡ a → untypedText b a ≡ andThen a (framed (untypedHead ContentKind.string b) (not b) (untypedLimit b))
+untyped-string : (s : List ℕ) (b : Bool) → leb (length s) (shortUpTo ContentKind.string) ≡ b → (a : Answer (List ℕ)) → textIn s ≡ a →
+    untypedText b a ≡ andThen a (framed (untypedHead ContentKind.string b) (not b) (untypedLimit b))
 unfolding framed
 untyped-string s true e (gives c) t =
     let i = in-short s c t in
@@ -94,7 +99,9 @@ untyped-string s true e (gives c) t =
 untyped-string s false e (gives c) t = refl
 untyped-string s b e (refuses r) t = refl
 
-untyped-inside : (k : ContentKind) (s : List ℕ) → let b = leb (length s) (shortUpTo k) in writeUntyped (givenOf k (inside s)) ≡ andThen (encoded k s) (framed (untypedHead k b) (not b) (untypedLimit b))
+untyped-inside : (k : ContentKind) (s : List ℕ) →
+    let b = leb (length s) (shortUpTo k) in
+    writeUntyped (givenOf k (inside s)) ≡ andThen (encoded k s) (framed (untypedHead k b) (not b) (untypedLimit b))
 unfolding writeUntyped
 untyped-inside ContentKind.binary s = untyped-binary s (leb (length s) (shortUpTo ContentKind.binary)) refl
 untyped-inside ContentKind.string s = untyped-string s (leb (length s) (shortUpTo ContentKind.string)) refl (textIn s) refl
@@ -118,10 +125,17 @@ module _ (buffer : List ℕ) (start count : ℕ) where
   pub span-count : start + count ≤ length buffer → length (take count (drop start buffer)) ≡ count
   span-count h = simp (length-take, length-drop) (omega arith)
 
-  pub untyped-span : (k : ContentKind) → let b = leb count (shortUpTo k) in writeUntyped (givenOf k (part buffer start count)) ≡ andThen (encodedPart k (part buffer start count)) (framed (untypedHead k b) (not b) (untypedLimit b))
+  -- a span's content is written behind the head that its count chooses
+  abbrev SpanWritten : ContentKind → Type 0
+  SpanWritten k =
+      let b = leb count (shortUpTo k) in
+      writeUntyped (givenOf k (part buffer start count))
+      ≡ andThen (encodedPart k (part buffer start count)) (framed (untypedHead k b) (not b) (untypedLimit b))
+
+  pub untyped-span : (k : ContentKind) → SpanWritten k
   untyped-span k = go (ltb (length buffer) (start + count)) refl
     where
-      go : (t : Bool) → ltb (length buffer) (start + count) ≡ t → let b = leb count (shortUpTo k) in writeUntyped (givenOf k (part buffer start count)) ≡ andThen (encodedPart k (part buffer start count)) (framed (untypedHead k b) (not b) (untypedLimit b))
+      go : (t : Bool) → ltb (length buffer) (start + count) ≡ t → SpanWritten k
       go true e = rw (span-outside (ltb-true (length buffer) (start + count) e)) (untyped-outside k)
       go false e =
           let i = ltb-false (length buffer) (start + count) e in
@@ -129,7 +143,8 @@ module _ (buffer : List ℕ) (start count : ℕ) where
           rw (span-inside i) (rw (span-count i) at u)
 
   pub untyped-size : (k : ContentKind) (short : Bool) (limit : ℕ) (x : Answer ℕ) → short ≡ leb count (shortUpTo k) → limit ≡ untypedLimit short
-      → x ≡ wrote (andThen (encodedPart k (part buffer start count)) (framed (untypedHead k short) (not short) limit)) → x ≡ wrote (writeUntyped (givenOf k (part buffer start count)))
+      → x ≡ wrote (andThen (encodedPart k (part buffer start count)) (framed (untypedHead k short) (not short) limit))
+      → x ≡ wrote (writeUntyped (givenOf k (part buffer start count)))
   untyped-size k short limit x e f h = rw (f, e) at h ∙ rw (untyped-span k)
 
 -- ---- how many bytes
@@ -158,7 +173,8 @@ module _ (h : List ℕ) (plp : Bool) (bound : ℕ) where
   framed-long (gives c) n w i = let e : n ≡ length c = cc in let t = lt-ltb bound (length c) (omega arith) in rw t
   framed-long (refuses r) n w i = let z : _≡_ {A = ℕ} 0 1 = cc in absurd (omega arith)
 
-  pub framed-size : (a : Answer (List ℕ)) (n m : ℕ) → gives n ≡ wrote a → n ≤ bound → ((c : List ℕ) → length c ≡ n → m ≡ length (formed plp c)) → gives (length h + m) ≡ wrote (andThen a (framed h plp bound))
+  pub framed-size : (a : Answer (List ℕ)) (n m : ℕ) → gives n ≡ wrote a → n ≤ bound → ((c : List ℕ) → length c ≡ n → m ≡ length (formed plp c)) →
+      gives (length h + m) ≡ wrote (andThen a (framed h plp bound))
   unfolding wrote framed
   framed-size (gives c) n m w i f =
       let e : n ≡ length c = cc in

@@ -81,7 +81,8 @@ copied s out new h e = ap gives (e ∙ behind-all out s (sym (count-is (gives s)
 -- ---- between the two passes
 
 -- there is room, and its front comes back filled
-pub room-filled : (a : Answer (List ℕ)) (out ys : List ℕ) (n : ℕ) → gives n ≡ wrote a → n ≤ length out → gives ys ≡ a → (gives n ≡ wrote (fitted a (length out))) × (ys ++ drop n out ≡ roomAfter (fitted a (length out)) out)
+pub room-filled : (a : Answer (List ℕ)) (out ys : List ℕ) (n : ℕ) → gives n ≡ wrote a → n ≤ length out → gives ys ≡ a →
+    (gives n ≡ wrote (fitted a (length out))) × (ys ++ drop n out ≡ roomAfter (fitted a (length out)) out)
 room-filled a out ys n h i e =
     let l = count-is a n ys h (sym e) in
     let q = has-room ys out n (sym l) (omega arith) in

@@ -40,7 +40,8 @@ module _ (a : Answer (List ℕ)) (n : ℕ) (h : gives n ≡ wrote (inForm false 
       let l : n ≡ suc (suc (length (f .0))) = f .2 in
       (omega arith, gives-count a (f .0) (n - 2) (f .1) (omega arith))
 
-pub short-filled : (a : Answer (List ℕ)) (out one ys new : List ℕ) → gives (length out) ≡ wrote (inForm false a) → one ≡ sets out 0 (lowBytes 2 (length out - 2)) → gives ys ≡ a
+pub short-filled : (a : Answer (List ℕ)) (out one ys new : List ℕ) → gives (length out) ≡ wrote (inForm false a) →
+    one ≡ sets out 0 (lowBytes 2 (length out - 2)) → gives ys ≡ a
     → new ≡ putMid 2 (length one - 2) one ys → gives new ≡ inForm false a
 short-filled a out one ys new h w e s =
     let r = short-room a (length out) h in
@@ -57,10 +58,13 @@ none-left : (c : List ℕ) → length c ≡ 0 → c ≡ []
 none-left [] h = refl
 none-left (b ∷ bs) h = absurd (omega arith)
 
-plp-count : (c : List ℕ) → (12 ≤ length (formed true c)) × (length (formed true c) ≡ 12 → length c ≡ 0) × ((length (formed true c) ≡ 12 → ⊥) → (0 < length c) × (length (formed true c) ≡ 16 + length c))
+plp-count : (c : List ℕ) →
+    (12 ≤ length (formed true c)) × (length (formed true c) ≡ 12 → length c ≡ 0) × ((length (formed true c) ≡ 12 → ⊥) → (0 < length c) × (length (formed true c) ≡ 16 + length c))
 unfolding plpBytes
 plp-count [] = (omega arith, λ e. refl, λ f. absurd (f refl))
-plp-count (b ∷ bs) = let l : length (formed true (b ∷ bs)) ≡ 16 + length (b ∷ bs) = simp length-append (omega arith) in (omega arith, λ e. absurd (omega arith), λ f. (omega arith, l))
+plp-count (b ∷ bs) =
+    let l : length (formed true (b ∷ bs)) ≡ 16 + length (b ∷ bs) = simp length-append (omega arith)
+    in (omega arith, λ e. absurd (omega arith), λ f. (omega arith, l))
 
 module _ (a : Answer (List ℕ)) (n : ℕ) (h : gives n ≡ wrote (inForm true a)) where
   pub plp-room : 12 ≤ n
@@ -113,14 +117,17 @@ abbrev pub headed : List ℕ → Bool → Answer (List ℕ) → Answer (List ℕ
 headed head plp a = andThen a (λ c. gives (head ++ formed plp c))
 
 -- what is within its bound
-framed-written : (head : List ℕ) (plp : Bool) (bound : ℕ) (a : Answer (List ℕ)) (n : ℕ) → gives n ≡ wrote (andThen a (framed head plp bound)) → andThen a (framed head plp bound) ≡ headed head plp a
+framed-written : (head : List ℕ) (plp : Bool) (bound : ℕ) (a : Answer (List ℕ)) (n : ℕ) → gives n ≡ wrote (andThen a (framed head plp bound)) →
+    andThen a (framed head plp bound) ≡ headed head plp a
 unfolding framed
 framed-written head plp bound (gives c) n h = check-passed (ltb bound (length c)) long (gives (head ++ formed plp c)) n h
 framed-written head plp bound (refuses e) n h = refl
 
-pub head-room : (head : List ℕ) (plp : Bool) (a : Answer (List ℕ)) (n : ℕ) → gives n ≡ wrote (headed head plp a) → (length head ≤ n) × (gives (n - length head) ≡ wrote (inForm plp a))
+pub head-room : (head : List ℕ) (plp : Bool) (a : Answer (List ℕ)) (n : ℕ) → gives n ≡ wrote (headed head plp a) →
+    (length head ≤ n) × (gives (n - length head) ≡ wrote (inForm plp a))
 head-room head plp (gives c) n h =
-    let l : n ≡ length head + length (formed plp c) = count-is (headed head plp (gives c)) n (head ++ formed plp c) h refl ∙ length-append head (formed plp c) in
+    let l : n ≡ length head + length (formed plp c) =
+    count-is (headed head plp (gives c)) n (head ++ formed plp c) h refl ∙ length-append head (formed plp c) in
     (omega arith, gives-count (inForm plp (gives c)) (formed plp c) (n - length head) refl (omega arith))
 head-room head plp (refuses e) n h = not-refused e n h
 
@@ -128,22 +135,26 @@ with-head : (head : List ℕ) (plp : Bool) (a : Answer (List ℕ)) (ys : List �
 with-head head plp (gives c) ys e = let z : ys ≡ formed plp c = cc in rw z
 with-head head plp (refuses r) ys e = let z : _≡_ {A = ℕ} 0 1 = cc in absurd (omega arith)
 
-pub head-filled : (head : List ℕ) (plp : Bool) (a : Answer (List ℕ)) (out one ys new : List ℕ) (m : ℕ) → gives (length out) ≡ wrote (headed head plp a) → m ≡ length head → one ≡ sets out 0 head → gives ys ≡ inForm plp a
+pub head-filled : (head : List ℕ) (plp : Bool) (a : Answer (List ℕ)) (out one ys new : List ℕ) (m : ℕ) →
+    gives (length out) ≡ wrote (headed head plp a) → m ≡ length head → one ≡ sets out 0 head → gives ys ≡ inForm plp a
     → new ≡ putMid m (length one - m) one ys → gives new ≡ headed head plp a
 head-filled head plp a out one ys new m h i w e s =
     let r = head-room head plp a (length out) h in
     let l = count-is (inForm plp a) (length out - length head) ys (r .1) (sym e) in
     let z : length one ≡ length out = ap length w ∙ length-sets out 0 head in
     let p = lent-sets one ys m (length one - m) (omega (arith, z, r .0)) (omega (arith, z, l)) in
-    filled (headed head plp a) out new (head ++ ys) h (with-head head plp a ys e) (s ∙ (p ∙ (ap (λ (x : List ℕ). sets x m ys) w ∙ sets-then out 0 m head ys (i ∙ sym (zero-add (length head))))))
+    filled (headed head plp a) out new (head ++ ys) h (with-head head plp a ys e)
+    (s ∙ (p ∙ (ap (λ (x : List ℕ). sets x m ys) w ∙ sets-then out 0 m head ys (i ∙ sym (zero-add (length head))))))
 
 -- ---- under a family, and without a type
 
 module _ (d : ℕ) (p : Part) (n : ℕ) where
-  kept-form : (k : ContentKind) → gives n ≡ wrote (writeFamily d (some (content k)) (givenOf k p)) → writeFamily d (some (content k)) (givenOf k p) ≡ inForm (eqb d plpMark) (encodedPart k p)
+  kept-form : (k : ContentKind) → gives n ≡ wrote (writeFamily d (some (content k)) (givenOf k p)) →
+      writeFamily d (some (content k)) (givenOf k p) ≡ inForm (eqb d plpMark) (encodedPart k p)
   kept-form k h = let e = content-framed d k p in e ∙ framed-written [] (eqb d plpMark) (contentBound d) (encodedPart k p) n (h ∙ ap wrote e)
 
-  pub content-written : (f : Option Family) (k : ContentKind) → gives n ≡ wrote (writeFamily d f (givenOf k p)) → writeFamily d f (givenOf k p) ≡ inForm (eqb d plpMark) (encodedPart k p)
+  pub content-written : (f : Option Family) (k : ContentKind) → gives n ≡ wrote (writeFamily d f (givenOf k p)) →
+      writeFamily d f (givenOf k p) ≡ inForm (eqb d plpMark) (encodedPart k p)
   content-written none k h = not-refused notCarried n h
   content-written (some (fixedWidth w)) k h = not-refused kind n (h ∙ ap wrote (no-fixed d p w k))
   content-written (some (lengthByte ws)) k h = not-refused kind n (h ∙ ap wrote (no-listed d p ws k))
@@ -162,7 +173,9 @@ module _ (buffer : List ℕ) (start count n : ℕ) (k : ContentKind) where
           not-refused missing n (rw o at h)
       go false e = ltb-false (length buffer) (start + count) e
 
-  pub untyped-written : (short : Bool) → short ≡ leb count (shortUpTo k) → gives n ≡ wrote (writeUntyped (givenOf k (part buffer start count))) → writeUntyped (givenOf k (part buffer start count)) ≡ headed (untypedHead k short) (not short) (encodedPart k (part buffer start count))
+  pub untyped-written : (short : Bool) → short ≡ leb count (shortUpTo k) → gives n ≡ wrote (writeUntyped (givenOf k (part buffer start count))) →
+      writeUntyped (givenOf k (part buffer start count)) ≡ headed (untypedHead k short) (not short) (encodedPart k (part buffer start count))
   untyped-written short i h =
-      let e : writeUntyped (givenOf k (part buffer start count)) ≡ andThen (encodedPart k (part buffer start count)) (framed (untypedHead k short) (not short) (untypedLimit short)) = rw i (untyped-span buffer start count k) in
+      let e : writeUntyped (givenOf k (part buffer start count)) ≡ andThen (encodedPart k (part buffer start count)) (framed (untypedHead k short) (not short) (untypedLimit short)) =
+      rw i (untyped-span buffer start count k) in
       e ∙ framed-written (untypedHead k short) (not short) (untypedLimit short) (encodedPart k (part buffer start count)) n (h ∙ ap wrote e)

@@ -64,23 +64,28 @@ wrote-if true e a = refl
 wrote-if false e a = refl
 
 module _ (d : ℕ) (s : Scalar) where
-  pub fixed-scalar : (k : S.Kind) → wrote (writeFamily d (some (fixedWidth k)) (Given.scalar (scalarTold s))) ≡ refuseIf (not (sameKind (kindOf (scalarTold s)) k)) kind (gives (width (kindOf (scalarTold s))))
+  pub fixed-scalar : (k : S.Kind) →
+      wrote (writeFamily d (some (fixedWidth k)) (Given.scalar (scalarTold s))) ≡ refuseIf (not (sameKind (kindOf (scalarTold s)) k)) kind (gives (width (kindOf (scalarTold s))))
   unfolding wrote
   fixed-scalar k = wrote-if (not (sameKind (kindOf (scalarTold s)) k)) kind (gives (scalarBytes (scalarTold s))) ∙ rw (length-bytes s)
 
-  pub listed-scalar : (ks : List S.Kind) → wrote (writeFamily d (some (lengthByte ks)) (Given.scalar (scalarTold s))) ≡ refuseIf (not (isOneOf ks (kindOf (scalarTold s)))) kind (refuseIf (ltb d (width (kindOf (scalarTold s)))) long (gives (1 + width (kindOf (scalarTold s)))))
+  pub listed-scalar : (ks : List S.Kind) →
+      wrote (writeFamily d (some (lengthByte ks)) (Given.scalar (scalarTold s))) ≡ refuseIf (not (isOneOf ks (kindOf (scalarTold s)))) kind (refuseIf (ltb d (width (kindOf (scalarTold s)))) long (gives (1 + width (kindOf (scalarTold s)))))
   unfolding wrote
   listed-scalar ks =
       let v = scalarTold s in
       let n : suc (width (kindOf v)) ≡ 1 + width (kindOf v) = omega arith in
       wrote-if (not (isOneOf ks (kindOf v))) kind (refuseIf (ltb d (width (kindOf v))) long (gives (width (kindOf v) ∷ scalarBytes v)))
-      ∙ ap (refuseIf (not (isOneOf ks (kindOf v))) kind) (wrote-if (ltb d (width (kindOf v))) long (gives (width (kindOf v) ∷ scalarBytes v)) ∙ rw (length-bytes s, n))
+      ∙ ap (refuseIf (not (isOneOf ks (kindOf v))) kind)
+      (wrote-if (ltb d (width (kindOf v))) long (gives (width (kindOf v) ∷ scalarBytes v)) ∙ rw (length-bytes s, n))
 
   -- what can be written has passed its checks
-  pub fixed-written : (k : S.Kind) (n : ℕ) → gives n ≡ wrote (writeFamily d (some (fixedWidth k)) (Given.scalar (scalarTold s))) → writeFamily d (some (fixedWidth k)) (Given.scalar (scalarTold s)) ≡ gives (scalarBytes (scalarTold s))
+  pub fixed-written : (k : S.Kind) (n : ℕ) → gives n ≡ wrote (writeFamily d (some (fixedWidth k)) (Given.scalar (scalarTold s))) →
+      writeFamily d (some (fixedWidth k)) (Given.scalar (scalarTold s)) ≡ gives (scalarBytes (scalarTold s))
   fixed-written k n h = check-passed (not (sameKind (kindOf (scalarTold s)) k)) kind (gives (scalarBytes (scalarTold s))) n h
 
-  pub listed-written : (ks : List S.Kind) (n : ℕ) → gives n ≡ wrote (writeFamily d (some (lengthByte ks)) (Given.scalar (scalarTold s))) → writeFamily d (some (lengthByte ks)) (Given.scalar (scalarTold s)) ≡ gives (width (kindOf (scalarTold s)) ∷ scalarBytes (scalarTold s))
+  pub listed-written : (ks : List S.Kind) (n : ℕ) → gives n ≡ wrote (writeFamily d (some (lengthByte ks)) (Given.scalar (scalarTold s))) →
+      writeFamily d (some (lengthByte ks)) (Given.scalar (scalarTold s)) ≡ gives (width (kindOf (scalarTold s)) ∷ scalarBytes (scalarTold s))
   listed-written ks n h =
       let v = scalarTold s in
       let long-checked = refuseIf (ltb d (width (kindOf v))) long (gives (width (kindOf v) ∷ scalarBytes v)) in
@@ -89,7 +94,8 @@ module _ (d : ℕ) (s : Scalar) where
 
 -- ---- without a type
 
-pub untyped-bytes : (s : Scalar) → let v = scalarTold s in writeUntyped (Given.scalar v) ≡ gives (byteLenByte (untypedType (kindOf v)) ∷ width (kindOf v) ∷ width (kindOf v) ∷ scalarBytes v)
+pub untyped-bytes : (s : Scalar) → let v =
+    scalarTold s in writeUntyped (Given.scalar v) ≡ gives (byteLenByte (untypedType (kindOf v)) ∷ width (kindOf v) ∷ width (kindOf v) ∷ scalarBytes v)
 unfolding writeUntyped
 untyped-bytes s = refl
 

@@ -26,7 +26,8 @@ unfolding guidWire guidOrder
 length-wire g = refl
 
 pub guid-written : (out : List ℕ) (at : ℕ) (g : Guid) →
-    sets (sets (sets (sets out at (lowBytes 4 (g .high / 4294967296))) (at + 4) (lowBytes 2 (g .high / 65536))) (at + 6) (lowBytes 2 (g .high))) (at + 8) (highBytes 8 (g .low))
+    sets (sets (sets (sets out at (lowBytes 4 (g .high / 4294967296))) (at + 4) (lowBytes 2 (g .high / 65536))) (at + 6) (lowBytes 2 (g .high)))
+    (at + 8) (highBytes 8 (g .low))
     ≡ sets out at (guidWire g)
 guid-written out at g =
     let a = lowBytes 4 (g .high / 4294967296) in
@@ -43,7 +44,8 @@ abbrev guidFrom : ℕ → ℕ → Guid
 guidFrom high low = record { high = high; low = low }
 
 pub guid-read : (r : List ℕ) → 8 ≤ length r →
-    guidFrom ((lowNat (take 4 r) * 65536 + lowNat (take 2 (drop 4 r))) * 65536 + lowNat (take 2 (drop 6 r))) (highNat (take 8 (drop 8 r))) ≡ guidText (take 16 r)
+    guidFrom ((lowNat (take 4 r) * 65536 + lowNat (take 2 (drop 4 r))) * 65536 + lowNat (take 2 (drop 6 r))) (highNat (take 8 (drop 8 r))) ≡ guidText
+    (take 16 r)
 unfolding guidText guidOrder
 guid-read [] l = absurd (omega arith)
 guid-read (a ∷ []) l = absurd (omega arith)

@@ -35,7 +35,8 @@ module _ (s : List ℕ) (at : ℕ) where
           none e = ap readByte e
 
   -- a reader of a fixed count
-  module _ {A : Type 0} (reader : List ℕ → Read A) (w : ℕ) (value : List ℕ → A) (is : (l : List ℕ) → reader l ≡ stopIf (ltb (length l) w) missing (took (value l) w)) where
+  module _ {A : Type 0} (reader : List ℕ → Read A) (w : ℕ) (value : List ℕ → A)
+      (is : (l : List ℕ) → reader l ≡ stopIf (ltb (length l) w) missing (took (value l) w)) where
     pub count-there : at + w ≤ length s → took (value (drop at s)) (at + w) ≡ readAt reader s at
     count-there h =
         let l = length-drop at s in

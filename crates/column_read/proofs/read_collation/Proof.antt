@@ -40,23 +40,36 @@ plain-requires c κs = search needs
 
 returns : tie.Need-returns
 returns c =
-    let a = c .before .before .before .before .before .before .before .before .args in
-    let h = sym (c .before .before .before .before .before .before .has-collation .ensures) ∙ c .before .before .before .before .before .if1 .taken in
-    let g = c .before .before .info .given in
-    let e = sym (c .before .before .before .before .low .ensures .0) ∙ ap numberTold (g .1) in (
+    let after-info = c .before .before in
+    let after-low = after-info .before .before in
+    let in-if1 = after-low .before in
+    let after-has-collation = in-if1 .before in
+    let start = after-has-collation .before .before in
+    let a = start .args in
+    let h = sym (after-has-collation .has-collation .ensures) ∙ in-if1 .if1 .taken in
+    let g = after-info .info .given in
+    let e = sym (after-low .low .ensures .0) ∙ ap numberTold (g .1) in (
       c .read-sort .ensures .0
-          ∙ sym (at-taken (hasCollation (typeTold (a .t))) (thenRead (readLow 4) (readSort (typeTold (a .t)) (a .n))) (plain (typeTold (a .t)) (a .n)) (a .s .now) (a .at .at) h
+          ∙
+          sym
+          (at-taken (hasCollation (typeTold (a .t))) (thenRead (readLow 4) (readSort (typeTold (a .t)) (a .n))) (plain (typeTold (a .t)) (a .n)) (a .s .now) (a .at .at) h
           ∙ at-then (readLow 4) (readSort (typeTold (a .t)) (a .n)) (a .s .now) (a .at .at) (stays-low 4) (g .0 .0) (g .0 .1 .0 .at) e),
       c .read-sort .ensures .1,
     )
 
 returns-2 : tie.Need-returns-2
 returns-2 c =
-    let a = c .before .before .before .before .before .before .before .args in
-    let h = sym (c .before .before .before .before .before .has-collation .ensures) ∙ c .before .before .before .before .if1 .taken in
-    let g = c .before .e .given in
-    let e = sym (c .before .before .before .low .ensures .0) ∙ ap numberTold (g .1) in (
-      sym (at-taken (hasCollation (typeTold (a .t))) (thenRead (readLow 4) (readSort (typeTold (a .t)) (a .n))) (plain (typeTold (a .t)) (a .n)) (a .s .now) (a .at .at) h
+    let after-e = c .before in
+    let after-low = after-e .before .before in
+    let in-if1 = after-low .before in
+    let after-has-collation = in-if1 .before in
+    let start = after-has-collation .before .before in
+    let a = start .args in
+    let h = sym (after-has-collation .has-collation .ensures) ∙ in-if1 .if1 .taken in
+    let g = after-e .e .given in
+    let e = sym (after-low .low .ensures .0) ∙ ap numberTold (g .1) in (
+      sym
+          (at-taken (hasCollation (typeTold (a .t))) (thenRead (readLow 4) (readSort (typeTold (a .t)) (a .n))) (plain (typeTold (a .t)) (a .n)) (a .s .now) (a .at .at) h
           ∙ at-then-stops (readLow 4) (readSort (typeTold (a .t)) (a .n)) (a .s .now) (a .at .at) (refusalTold (g .0 .0)) e),
       λ p. tt,
     )
@@ -65,7 +78,9 @@ returns-3 : tie.Need-returns-3
 returns-3 c =
     let a = c .before .before .before .before .args in
     let h = sym (c .before .before .has-collation .ensures) ∙ c .before .if1 .left in
-    let e = at-left (hasCollation (typeTold (a .t))) (thenRead (readLow 4) (readSort (typeTold (a .t)) (a .n))) (plain (typeTold (a .t)) (a .n)) (a .s .now) (a .at .at) h (c .before .before .before .before .pre) in
+    let e =
+    at-left (hasCollation (typeTold (a .t))) (thenRead (readLow 4) (readSort (typeTold (a .t)) (a .n))) (plain (typeTold (a .t)) (a .n))
+    (a .s .now) (a .at .at) h (c .before .before .before .before .pre) in
     (rw (c .plain .ensures) (sym e), λ p. rw (c .plain .ensures) tt)
 
 pub read-collation-spec : {M : Type 1} → statement M

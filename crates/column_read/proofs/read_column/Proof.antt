@@ -19,9 +19,12 @@ enum-known-b c = search needs
 
 read-type-requires : tie.Need-read-type-requires
 read-type-requires c κs =
-    let a = c .before .before .before .before .before .args in
-    let g = c .before .b .given in
-    next-inside readByte (a .s .now) (a .at .at) stays-byte (g .0 .0) (g .0 .1 .0 .at) (sym (c .before .before .before .byte .ensures) ∙ ap byteTold (g .1)) .1
+    let after-b = c .before in
+    let after-byte = after-b .before .before in
+    let start = after-byte .before .before in
+    let a = start .args in
+    let g = after-b .b .given in
+    next-inside readByte (a .s .now) (a .at .at) stays-byte (g .0 .0) (g .0 .1 .0 .at) (sym (after-byte .byte .ensures) ∙ ap byteTold (g .1)) .1
 
 enum-known-e : tie.Need-enum-known-e
 enum-known-e c = search needs
@@ -29,18 +32,27 @@ enum-known-e c = search needs
 returns : tie.Need-returns
 unfolding readColumn
 returns c =
-    let a = c .before .before .before .before .before .before .args in
-    let g = c .before .before .b .given in
-    let e = sym (c .before .before .before .before .byte .ensures) ∙ ap byteTold (g .1) in
-    let p : a .at .at + 3 ≡ g .0 .1 .0 .at + 2 = omega (arith, byte-next (a .s .now) (a .at .at) (g .0 .0) (g .0 .1 .0 .at) e) in
-    (c .read-type .ensures .0 ∙ sym (at-then readByte readType (a .s .now) (a .at .at) stays-byte (g .0 .0) (g .0 .1 .0 .at) e), rw p (c .read-type .ensures .1))
+    let after-b = c .before .before in
+    let after-byte = after-b .before .before in
+    let start = after-byte .before .before in
+    let a = start .args in
+    let g = after-b .b .given in
+    let e = sym (after-byte .byte .ensures) ∙ ap byteTold (g .1) in
+    let p : a .at .at + 3 ≡ g .0 .1 .0 .at + 2 = omega (arith, byte-next (a .s .now) (a .at .at) (g .0 .0) (g .0 .1 .0 .at) e) in (
+      c .read-type .ensures .0 ∙ sym (at-then readByte readType (a .s .now) (a .at .at) stays-byte (g .0 .0) (g .0 .1 .0 .at) e),
+      rw p
+          (c .read-type .ensures .1),
+    )
 
 returns-2 : tie.Need-returns-2
 unfolding readColumn
 returns-2 c =
-    let a = c .before .before .before .before .before .args in
-    let g = c .before .e .given in
-    let e = sym (c .before .before .before .byte .ensures) ∙ ap byteTold (g .1) in
+    let after-e = c .before in
+    let after-byte = after-e .before .before in
+    let start = after-byte .before .before in
+    let a = start .args in
+    let g = after-e .e .given in
+    let e = sym (after-byte .byte .ensures) ∙ ap byteTold (g .1) in
     (sym (at-then-stops readByte readType (a .s .now) (a .at .at) (refusalTold (g .0 .0)) e), tt)
 
 pub read-column-spec : {M : Type 1} → statement M

@@ -30,23 +30,36 @@ plain-requires c κs = search needs
 
 returns : tie.Need-returns
 returns c =
-    let a = c .before .before .before .before .before .before .before .before .args in
-    let h = sym (c .before .before .before .before .before .before .has-digits .ensures) ∙ c .before .before .before .before .before .if1 .taken in
-    let g = c .before .before .precision .given in
-    let e = sym (c .before .before .before .before .byte .ensures) ∙ ap byteTold (g .1) in (
+    let after-precision = c .before .before in
+    let after-byte = after-precision .before .before in
+    let in-if1 = after-byte .before in
+    let after-has-digits = in-if1 .before in
+    let start = after-has-digits .before .before in
+    let a = start .args in
+    let h = sym (after-has-digits .has-digits .ensures) ∙ in-if1 .if1 .taken in
+    let g = after-precision .precision .given in
+    let e = sym (after-byte .byte .ensures) ∙ ap byteTold (g .1) in (
       c .read-scale .ensures .0
-          ∙ sym (at-taken (hasDigits (typeTold (a .t))) (thenRead readByte (readScale (typeTold (a .t)) (a .n))) (plain (typeTold (a .t)) (a .n)) (a .s .now) (a .at .at) h
+          ∙
+          sym
+          (at-taken (hasDigits (typeTold (a .t))) (thenRead readByte (readScale (typeTold (a .t)) (a .n))) (plain (typeTold (a .t)) (a .n)) (a .s .now) (a .at .at) h
           ∙ at-then readByte (readScale (typeTold (a .t)) (a .n)) (a .s .now) (a .at .at) stays-byte (g .0 .0) (g .0 .1 .0 .at) e),
       c .read-scale .ensures .1,
     )
 
 returns-2 : tie.Need-returns-2
 returns-2 c =
-    let a = c .before .before .before .before .before .before .before .args in
-    let h = sym (c .before .before .before .before .before .has-digits .ensures) ∙ c .before .before .before .before .if1 .taken in
-    let g = c .before .e .given in
-    let e = sym (c .before .before .before .byte .ensures) ∙ ap byteTold (g .1) in (
-      sym (at-taken (hasDigits (typeTold (a .t))) (thenRead readByte (readScale (typeTold (a .t)) (a .n))) (plain (typeTold (a .t)) (a .n)) (a .s .now) (a .at .at) h
+    let after-e = c .before in
+    let after-byte = after-e .before .before in
+    let in-if1 = after-byte .before in
+    let after-has-digits = in-if1 .before in
+    let start = after-has-digits .before .before in
+    let a = start .args in
+    let h = sym (after-has-digits .has-digits .ensures) ∙ in-if1 .if1 .taken in
+    let g = after-e .e .given in
+    let e = sym (after-byte .byte .ensures) ∙ ap byteTold (g .1) in (
+      sym
+          (at-taken (hasDigits (typeTold (a .t))) (thenRead readByte (readScale (typeTold (a .t)) (a .n))) (plain (typeTold (a .t)) (a .n)) (a .s .now) (a .at .at) h
           ∙ at-then-stops readByte (readScale (typeTold (a .t)) (a .n)) (a .s .now) (a .at .at) (refusalTold (g .0 .0)) e),
       λ p. tt,
     )
@@ -55,7 +68,9 @@ returns-3 : tie.Need-returns-3
 returns-3 c =
     let a = c .before .before .before .before .args in
     let h = sym (c .before .before .has-digits .ensures) ∙ c .before .if1 .left in
-    let e = at-left (hasDigits (typeTold (a .t))) (thenRead readByte (readScale (typeTold (a .t)) (a .n))) (plain (typeTold (a .t)) (a .n)) (a .s .now) (a .at .at) h (c .before .before .before .before .pre) in
+    let e =
+    at-left (hasDigits (typeTold (a .t))) (thenRead readByte (readScale (typeTold (a .t)) (a .n))) (plain (typeTold (a .t)) (a .n)) (a .s .now)
+    (a .at .at) h (c .before .before .before .before .pre) in
     (rw (c .plain .ensures) (sym e), λ p. rw (c .plain .ensures) tt)
 
 pub read-digits-spec : {M : Type 1} → statement M

@@ -17,26 +17,40 @@ enum-known-n c = search needs
 
 read-units-requires : tie.Need-read-units-requires
 read-units-requires c κs =
-    let a = c .before .before .before .before .before .args in
-    let g = c .before .n .given in
-    next-inside (readLow (widthOf (a .w))) (a .s .now) (a .at .at) (stays-low (widthOf (a .w))) (g .0 .0) (g .0 .1 .0 .at) (sym (c .before .before .before .low .ensures .0) ∙ ap numberTold (g .1)) .1
+    let after-n = c .before in
+    let after-low = after-n .before .before in
+    let start = after-low .before .before in
+    let a = start .args in
+    let g = after-n .n .given in
+    next-inside (readLow (widthOf (a .w))) (a .s .now) (a .at .at) (stays-low (widthOf (a .w))) (g .0 .0) (g .0 .1 .0 .at)
+    (sym (after-low .low .ensures .0) ∙ ap numberTold (g .1)) .1
 
 enum-known-e : tie.Need-enum-known-e
 enum-known-e c = search needs
 
 returns : tie.Need-returns
 returns c =
-    let a = c .before .before .before .before .before .before .args in
-    let g = c .before .before .n .given in
-    let e = sym (c .before .before .before .before .low .ensures .0) ∙ ap numberTold (g .1) in
-    let m = low-next (a .s .now) (a .at .at) (widthOf (a .w)) (g .0 .0) (g .0 .1 .0 .at) e in
-    (c .read-units .ensures .0 ∙ sym (at-then (readLow (widthOf (a .w))) readUnits (a .s .now) (a .at .at) (stays-low (widthOf (a .w))) (g .0 .0) (g .0 .1 .0 .at) e), rw m at (c .read-units .ensures .1))
+    let after-n = c .before .before in
+    let after-low = after-n .before .before in
+    let start = after-low .before .before in
+    let a = start .args in
+    let g = after-n .n .given in
+    let e = sym (after-low .low .ensures .0) ∙ ap numberTold (g .1) in
+    let m = low-next (a .s .now) (a .at .at) (widthOf (a .w)) (g .0 .0) (g .0 .1 .0 .at) e in (
+      c .read-units .ensures .0 ∙
+          sym (at-then (readLow (widthOf (a .w))) readUnits (a .s .now) (a .at .at) (stays-low (widthOf (a .w))) (g .0 .0) (g .0 .1 .0 .at) e),
+      rw m at
+          (c .read-units .ensures .1),
+    )
 
 returns-2 : tie.Need-returns-2
 returns-2 c =
-    let a = c .before .before .before .before .before .args in
-    let g = c .before .e .given in
-    let e = sym (c .before .before .before .low .ensures .0) ∙ ap numberTold (g .1) in
+    let after-e = c .before in
+    let after-low = after-e .before .before in
+    let start = after-low .before .before in
+    let a = start .args in
+    let g = after-e .e .given in
+    let e = sym (after-low .low .ensures .0) ∙ ap numberTold (g .1) in
     (sym (at-then-stops (readLow (widthOf (a .w))) readUnits (a .s .now) (a .at .at) (refusalTold (g .0 .0)) e), tt)
 
 pub read-name-spec : {M : Type 1} → statement M

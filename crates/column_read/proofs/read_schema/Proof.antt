@@ -22,9 +22,12 @@ enum-known-first c = search needs
 
 read-second-requires : tie.Need-read-second-requires
 read-second-requires c κs =
-    let a = c .before .before .before .before .before .before .args in
-    let g = c .before .first .given in
-    let f : NameFrom (a .s .now) (a .at .at + 1) (NR.Name (g .0 .0) (g .0 .1 .0)) = rw (g .1) at (c .before .before .before .read-name .ensures .1) in
+    let after-first = c .before in
+    let after-read-name = after-first .before .before in
+    let start = after-read-name .before .before .before in
+    let a = start .args in
+    let g = after-first .first .given in
+    let f : NameFrom (a .s .now) (a .at .at + 1) (NR.Name (g .0 .0) (g .0 .1 .0)) = rw (g .1) at (after-read-name .read-name .ensures .1) in
     (f .1, f .2)
 
 enum-known-e : tie.Need-enum-known-e
@@ -35,13 +38,17 @@ plain-requires c κs = search needs
 
 returns : tie.Need-returns
 returns c =
-    let a = c .before .before .before .before .before .before .before .args in
-    let g = c .before .before .first .given in
+    let after-first = c .before .before in
+    let after-read-name = after-first .before .before in
+    let in-if1 = after-read-name .before in
+    let start = in-if1 .before .before in
+    let a = start .args in
+    let g = after-first .first .given in
     let t = g .0 .0 in
     let next = g .0 .1 .0 in
-    let f : NameFrom (a .s .now) (a .at .at + 1) (NR.Name t next) = rw (g .1) at (c .before .before .before .before .read-name .ensures .1) in
-    let e = sym (c .before .before .before .before .read-name .ensures .0) ∙ ap (nameReadTold (a .s .now)) (g .1) in
-    let h = eq-eqb (a .marker) schemaMarker (c .before .before .before .before .before .if1 .taken) in (
+    let f : NameFrom (a .s .now) (a .at .at + 1) (NR.Name t next) = rw (g .1) at (after-read-name .read-name .ensures .1) in
+    let e = sym (after-read-name .read-name .ensures .0) ∙ ap (nameReadTold (a .s .now)) (g .1) in
+    let h = eq-eqb (a .marker) schemaMarker (in-if1 .if1 .taken) in (
       c .read-second .ensures .0
           ∙ sym (at-taken (eqb (a .marker) schemaMarker) (thenRead (readName 1) readSecond) (plain xml 0) (a .s .now) (a .at .at) h
           ∙ at-then (readName 1) readSecond (a .s .now) (a .at .at) (stays-name 1) (nameBytes (a .s .now) t) (next .at) e),
@@ -50,10 +57,14 @@ returns c =
 
 returns-2 : tie.Need-returns-2
 returns-2 c =
-    let a = c .before .before .before .before .before .before .args in
-    let g = c .before .e .given in
-    let e = sym (c .before .before .before .read-name .ensures .0) ∙ ap (nameReadTold (a .s .now)) (g .1) in
-    let h = eq-eqb (a .marker) schemaMarker (c .before .before .before .before .if1 .taken) in (
+    let after-e = c .before in
+    let after-read-name = after-e .before .before in
+    let in-if1 = after-read-name .before in
+    let start = in-if1 .before .before in
+    let a = start .args in
+    let g = after-e .e .given in
+    let e = sym (after-read-name .read-name .ensures .0) ∙ ap (nameReadTold (a .s .now)) (g .1) in
+    let h = eq-eqb (a .marker) schemaMarker (in-if1 .if1 .taken) in (
       sym (at-taken (eqb (a .marker) schemaMarker) (thenRead (readName 1) readSecond) (plain xml 0) (a .s .now) (a .at .at) h
           ∙ at-then-stops (readName 1) readSecond (a .s .now) (a .at .at) (refusalTold (g .0 .0)) e),
       tt,
@@ -63,7 +74,9 @@ returns-3 : tie.Need-returns-3
 returns-3 c =
     let a = c .before .before .before .args in
     let h = ne-eqb (a .marker) schemaMarker (c .before .if1 .left) in
-    let e = at-left (eqb (a .marker) schemaMarker) (thenRead (readName 1) readSecond) (plain xml 0) (a .s .now) (a .at .at) h (c .before .before .before .pre) in
+    let e =
+    at-left (eqb (a .marker) schemaMarker) (thenRead (readName 1) readSecond) (plain xml 0) (a .s .now) (a .at .at) h
+    (c .before .before .before .pre) in
     (rw (c .plain .ensures) (sym e), rw (c .plain .ensures) tt)
 
 pub read-schema-spec : {M : Type 1} → statement M

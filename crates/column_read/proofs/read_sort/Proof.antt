@@ -20,16 +20,22 @@ enum-known-e c = search needs
 
 returns : tie.Need-returns
 returns c =
-    let a = c .before .before .before .before .before .args in
-    let g = c .before .sort .given in
-    let e = sym (c .before .before .before .byte .ensures) ∙ ap byteTold (g .1) in
+    let after-sort = c .before in
+    let after-byte = after-sort .before .before in
+    let start = after-byte .before .before in
+    let a = start .args in
+    let g = after-sort .sort .given in
+    let e = sym (after-byte .byte .ensures) ∙ ap byteTold (g .1) in
     (sym (at-map-took (withSort (typeTold (a .t)) (a .n) (a .info)) readByte (a .s .now) (a .at .at) (g .0 .0) (g .0 .1 .0 .at) e), λ p. tt)
 
 returns-2 : tie.Need-returns-2
 returns-2 c =
-    let a = c .before .before .before .before .before .args in
-    let g = c .before .e .given in
-    let e = sym (c .before .before .before .byte .ensures) ∙ ap byteTold (g .1) in
+    let after-e = c .before in
+    let after-byte = after-e .before .before in
+    let start = after-byte .before .before in
+    let a = start .args in
+    let g = after-e .e .given in
+    let e = sym (after-byte .byte .ensures) ∙ ap byteTold (g .1) in
     (sym (at-map-stops (withSort (typeTold (a .t)) (a .n) (a .info)) readByte (a .s .now) (a .at .at) (refusalTold (g .0 .0)) e), λ p. tt)
 
 pub read-sort-spec : {M : Type 1} → statement M

@@ -24,24 +24,33 @@ enum-known-e c = search needs
 
 returns : tie.Need-returns
 returns c =
-    let a = c .before .before .before .before .before .args in
-    let g = c .before .third .given in
+    let after-third = c .before in
+    let after-read-name = after-third .before .before in
+    let start = after-read-name .before .before in
+    let a = start .args in
+    let g = after-third .third .given in
     let t = g .0 .0 in
     let next = g .0 .1 .0 in
-    let f : NameFrom (a .s .now) (a .at .at + 2) (NR.Name t next) = rw (g .1) at (c .before .before .before .read-name .ensures .1) in
-    let e = sym (c .before .before .before .read-name .ensures .0) ∙ ap (nameReadTold (a .s .now)) (g .1) in
+    let f : NameFrom (a .s .now) (a .at .at + 2) (NR.Name t next) = rw (g .1) at (after-read-name .read-name .ensures .1) in
+    let e = sym (after-read-name .read-name .ensures .0) ∙ ap (nameReadTold (a .s .now)) (g .1) in
     let w = withNames (nameBytes (a .s .now) (a .first)) (nameBytes (a .s .now) (a .second)) in (
-      ap (λ (k : D.Column). took k (next .at)) (names-told (a .s .now) (a .first) (a .second) t (c .before .before .before .before .before .pre .0) (c .before .before .before .before .before .pre .1) (f .2))
+      ap (λ (k : D.Column). took k (next .at)) (names-told (a .s .now) (a .first) (a .second) t (start .pre .0) (start .pre .1) (f .2))
           ∙ sym (at-map-took w (readName 2) (a .s .now) (a .at .at) (nameBytes (a .s .now) t) (next .at) e),
       (t, refl, f .0, f .2),
     )
 
 returns-2 : tie.Need-returns-2
 returns-2 c =
-    let a = c .before .before .before .before .before .args in
-    let g = c .before .e .given in
-    let e = sym (c .before .before .before .read-name .ensures .0) ∙ ap (nameReadTold (a .s .now)) (g .1) in
-    (sym (at-map-stops (withNames (nameBytes (a .s .now) (a .first)) (nameBytes (a .s .now) (a .second))) (readName 2) (a .s .now) (a .at .at) (refusalTold (g .0 .0)) e), tt)
+    let after-e = c .before in
+    let after-read-name = after-e .before .before in
+    let start = after-read-name .before .before in
+    let a = start .args in
+    let g = after-e .e .given in
+    let e = sym (after-read-name .read-name .ensures .0) ∙ ap (nameReadTold (a .s .now)) (g .1) in (
+      sym
+          (at-map-stops (withNames (nameBytes (a .s .now) (a .first)) (nameBytes (a .s .now) (a .second))) (readName 2) (a .s .now) (a .at .at) (refusalTold (g .0 .0)) e),
+      tt,
+    )
 
 pub read-third-spec : {M : Type 1} → statement M
 read-third-spec =

@@ -20,9 +20,12 @@ enum-told c = search needs
 
 returns : tie.Need-returns
 returns c =
-    let a = c .before .before .before .before .before .before .args in
-    let g = c .before .before .t .given in
-    let q = sym (c .before .before .before .before .type-of .ensures) ∙ ap typeReadTold (g .1) in
+    let after-t = c .before .before in
+    let after-type-of = after-t .before .before in
+    let start = after-type-of .before .before in
+    let a = start .args in
+    let g = after-t .t .given in
+    let q = sym (after-type-of .type-of .ensures) ∙ ap typeReadTold (g .1) in
     (c .read-fields .ensures .0 ∙ sym (known-type (a .b) (a .s .now) (a .at .at) (typeTold (g .0 .0)) q), c .read-fields .ensures .1)
 
 returns-2 : tie.Need-returns-2

@@ -27,8 +27,11 @@ returns c = search needs
 
 returns-2 : tie.Need-returns-2
 returns-2 c =
-    let h = sym (c .before .before .before .before .before .has-collation .ensures) ∙ c .before .before .before .before .if1 .taken in
-    rw (h, c .before .before .c .given .1) (c .collation-numbers .ensures)
+    let after-c = c .before .before in
+    let in-if1 = after-c .before .before in
+    let after-has-collation = in-if1 .before in
+    let h = sym (after-has-collation .has-collation .ensures) ∙ in-if1 .if1 .taken in
+    rw (h, after-c .c .given .1) (c .collation-numbers .ensures)
 
 returns-3 : tie.Need-returns-3
 returns-3 c = search needs

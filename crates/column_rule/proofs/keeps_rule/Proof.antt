@@ -28,8 +28,23 @@ both-requires-3 c κs = search needs
 returns : tie.Need-returns
 unfolding keepsRule
 returns c =
+    let after-both2 = c .before in
+    let after-both = after-both2 .before in
+    let after-schema-fits = after-both .before in
+    let after-collation-fits = after-schema-fits .before in
+    let after-digits-fit = after-collation-fits .before in
+    let after-length-fits = after-digits-fit .before in
     λ b.
-    rw (c .both3 .ensures, c .before .before .before .before .before .before .length-fits .ensures, c .before .both2 .ensures, c .before .before .before .before .before .digits-fit .ensures, c .before .before .both .ensures, c .before .before .before .before .collation-fits .ensures, c .before .before .before .schema-fits .ensures b)
+    rw (
+      c .both3 .ensures,
+      after-length-fits .length-fits .ensures,
+      after-both2 .both2 .ensures,
+      after-digits-fit .digits-fit .ensures,
+      after-both .both
+          .ensures,
+      after-collation-fits .collation-fits .ensures,
+      after-schema-fits .schema-fits .ensures b,
+    )
 
 pub keeps-rule-spec : {M : Type 1} → statement M
 keeps-rule-spec =

@@ -30,8 +30,20 @@ returns c = search needs
 
 returns-2 : tie.Need-returns-2
 returns-2 c =
-    let g = c .before .before .before .before .before .before .n .given in
-    rw (g .1, c .both2 .ensures, c .before .before .before .before .name-fits .ensures 1 refl, c .before .both .ensures, c .before .before .before .name-fits2 .ensures 1 refl, c .before .before .name-fits3 .ensures 2 refl)
+    let after-both = c .before in
+    let after-name-fits3 = after-both .before in
+    let after-name-fits2 = after-name-fits3 .before in
+    let after-name-fits = after-name-fits2 .before in
+    let after-n = after-name-fits .before .before in
+    let g = after-n .n .given in
+    rw (
+      g .1,
+      c .both2 .ensures,
+      after-name-fits .name-fits .ensures 1 refl,
+      after-both .both .ensures,
+      after-name-fits2 .name-fits2 .ensures 1 refl,
+      after-name-fits3 .name-fits3 .ensures 2 refl,
+    )
 
 pub names-fit-spec : {M : Type 1} → statement M
 names-fit-spec =

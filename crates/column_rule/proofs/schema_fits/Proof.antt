@@ -21,7 +21,9 @@ returns c = λ b. rw (c .enum-told .given .1)
 returns-2 : tie.Need-returns-2
 returns-2 c =
     let g = c .before .enum-told2 .given in
-    λ b. rw (g .1) (c .is-xml .ensures ∙ xml-schema (typeTold (c .before .before .before .args .t)) (record { database = nameTold b (g .0 .0); owner = nameTold b (g .0 .1 .0); collection = nameTold b (g .0 .1 .1 .0) }))
+    λ b. rw (g .1)
+    (c .is-xml .ensures ∙ xml-schema (typeTold (c .before .before .before .args .t))
+    (record { database = nameTold b (g .0 .0); owner = nameTold b (g .0 .1 .0); collection = nameTold b (g .0 .1 .1 .0) }))
 
 pub schema-fits-spec : {M : Type 1} → statement M
 schema-fits-spec = tie.close (tie.spec enum-told enum-told-2 is-xml-requires returns returns-2)

@@ -23,27 +23,44 @@ size-of-requires c κs = sym (c .before .before .before .names-fit .ensures) ∙
 returns : tie.Need-returns
 unfolding wrote
 returns c =
-    let a = c .before .before .before .before .before .before .before .before .args in
-    let h = sym (c .before .before .before .before .before .before .keeps-rule .ensures (a .names .now)) ∙ c .before .before .before .before .before .if1 .taken in
-    let i = sym (c .before .before .before .before .names-fit .ensures) ∙ c .before .before .before .if2 .taken in
-    let j = sym (c .before .before .is-described .ensures) ∙ c .before .if3 .taken in
+    let in-if3 = c .before in
+    let after-is-described = in-if3 .before in
+    let in-if2 = after-is-described .before in
+    let after-names-fit = in-if2 .before in
+    let in-if1 = after-names-fit .before in
+    let after-keeps-rule = in-if1 .before in
+    let start = after-keeps-rule .before .before in
+    let a = start .args in
+    let h = sym (after-keeps-rule .keeps-rule .ensures (a .names .now)) ∙ in-if1 .if1 .taken in
+    let i = sym (after-names-fit .names-fit .ensures) ∙ in-if2 .if2 .taken in
+    let j = sym (after-is-described .is-described .ensures) ∙ in-if3 .if3 .taken in
     rw (c .size-of .ensures) (sym (ap wrote (writes (columnTold (a .names .now) (a .c)) h i j)))
 
 returns-2 : tie.Need-returns-2
 unfolding wrote
 returns-2 c =
-    let a = c .before .before .before .before .before .before .before .args in
-    let h = sym (c .before .before .before .before .before .keeps-rule .ensures (a .names .now)) ∙ c .before .before .before .before .if1 .taken in
-    let i = sym (c .before .before .before .names-fit .ensures) ∙ c .before .before .if2 .taken in
-    let j = sym (c .before .is-described .ensures) ∙ c .if3 .left in
+    let after-is-described = c .before in
+    let in-if2 = after-is-described .before in
+    let after-names-fit = in-if2 .before in
+    let in-if1 = after-names-fit .before in
+    let after-keeps-rule = in-if1 .before in
+    let start = after-keeps-rule .before .before in
+    let a = start .args in
+    let h = sym (after-keeps-rule .keeps-rule .ensures (a .names .now)) ∙ in-if1 .if1 .taken in
+    let i = sym (after-names-fit .names-fit .ensures) ∙ in-if2 .if2 .taken in
+    let j = sym (after-is-described .is-described .ensures) ∙ c .if3 .left in
     sym (ap wrote (not-described (columnTold (a .names .now) (a .c)) h i j))
 
 returns-3 : tie.Need-returns-3
 unfolding wrote
 returns-3 c =
-    let a = c .before .before .before .before .before .args in
-    let h = sym (c .before .before .before .keeps-rule .ensures (a .names .now)) ∙ c .before .before .if1 .taken in
-    let i = sym (c .before .names-fit .ensures) ∙ c .if2 .left in
+    let after-names-fit = c .before in
+    let in-if1 = after-names-fit .before in
+    let after-keeps-rule = in-if1 .before in
+    let start = after-keeps-rule .before .before in
+    let a = start .args in
+    let h = sym (after-keeps-rule .keeps-rule .ensures (a .names .now)) ∙ in-if1 .if1 .taken in
+    let i = sym (after-names-fit .names-fit .ensures) ∙ c .if2 .left in
     sym (ap wrote (breaks-names (columnTold (a .names .now) (a .c)) h i))
 
 returns-4 : tie.Need-returns-4

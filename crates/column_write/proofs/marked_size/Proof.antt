@@ -28,30 +28,38 @@ add-result c =
 
 mul-result-2 : tie.Need-mul-result-2
 mul-result-2 c =
-    let a = c .before .before .before .before .before .args in
-    let g = c .before .before .before .n .given in
-    let f = fitting (a .names .now) (g .0 .0) (g .0 .1 .0) (g .0 .1 .1 .0) (rw (g .1) at (c .before .before .before .before .before .pre)) in
+    let after-n = c .before .before .before in
+    let start = after-n .before .before in
+    let a = start .args in
+    let g = after-n .n .given in
+    let f = fitting (a .names .now) (g .0 .0) (g .0 .1 .0) (g .0 .1 .1 .0) (rw (g .1) at (start .pre)) in
     omega (arith, f .databaseUnits, f .ownerUnits, f .collectionUnits)
 
 add-result-2 : tie.Need-add-result-2
 add-result-2 c =
-    let a = c .before .before .before .before .before .args in
-    let g = c .before .before .before .n .given in
-    let f = fitting (a .names .now) (g .0 .0) (g .0 .1 .0) (g .0 .1 .1 .0) (rw (g .1) at (c .before .before .before .before .before .pre)) in
+    let after-n = c .before .before .before in
+    let start = after-n .before .before in
+    let a = start .args in
+    let g = after-n .n .given in
+    let f = fitting (a .names .now) (g .0 .0) (g .0 .1 .0) (g .0 .1 .1 .0) (rw (g .1) at (start .pre)) in
     omega (arith, f .databaseUnits, f .ownerUnits, f .collectionUnits)
 
 mul-result-3 : tie.Need-mul-result-3
 mul-result-3 c =
-    let a = c .before .before .before .before .before .before .args in
-    let g = c .before .before .before .before .n .given in
-    let f = fitting (a .names .now) (g .0 .0) (g .0 .1 .0) (g .0 .1 .1 .0) (rw (g .1) at (c .before .before .before .before .before .before .pre)) in
+    let after-n = c .before .before .before .before in
+    let start = after-n .before .before in
+    let a = start .args in
+    let g = after-n .n .given in
+    let f = fitting (a .names .now) (g .0 .0) (g .0 .1 .0) (g .0 .1 .1 .0) (rw (g .1) at (start .pre)) in
     omega (arith, f .databaseUnits, f .ownerUnits, f .collectionUnits)
 
 add-result-3 : tie.Need-add-result-3
 add-result-3 c =
-    let a = c .before .before .before .before .before .before .args in
-    let g = c .before .before .before .before .n .given in
-    let f = fitting (a .names .now) (g .0 .0) (g .0 .1 .0) (g .0 .1 .1 .0) (rw (g .1) at (c .before .before .before .before .before .before .pre)) in
+    let after-n = c .before .before .before .before in
+    let start = after-n .before .before in
+    let a = start .args in
+    let g = after-n .n .given in
+    let f = fitting (a .names .now) (g .0 .0) (g .0 .1 .0) (g .0 .1 .1 .0) (rw (g .1) at (start .pre)) in
     omega (arith, f .databaseUnits, f .ownerUnits, f .collectionUnits)
 
 returns : tie.Need-returns
@@ -59,10 +67,14 @@ returns c = search needs
 
 returns-2 : tie.Need-returns-2
 returns-2 c =
-    let a = c .before .before .before .before .before .before .args in
-    let g = c .before .before .before .before .n .given in
-    let f = fitting (a .names .now) (g .0 .0) (g .0 .1 .0) (g .0 .1 .1 .0) (rw (g .1) at (c .before .before .before .before .before .before .pre)) in
-    (rw (g .1) (sym (length-names (a .names .now) (g .0 .0) (g .0 .1 .0) (g .0 .1 .1 .0) (f .database) (f .owner) (f .collection))), omega (arith, f .databaseUnits, f .ownerUnits, f .collectionUnits))
+    let after-n = c .before .before .before .before in
+    let start = after-n .before .before in
+    let a = start .args in
+    let g = after-n .n .given in
+    let f = fitting (a .names .now) (g .0 .0) (g .0 .1 .0) (g .0 .1 .1 .0) (rw (g .1) at (start .pre)) in (
+      rw (g .1) (sym (length-names (a .names .now) (g .0 .0) (g .0 .1 .0) (g .0 .1 .1 .0) (f .database) (f .owner) (f .collection))),
+      omega (arith, f .databaseUnits, f .ownerUnits, f .collectionUnits),
+    )
 
 pub marked-size-spec : {M : Type 1} → statement M
 marked-size-spec =

@@ -17,7 +17,9 @@ cast-put-low c = search needs
 
 put-low-requires : tie.Need-put-low-requires
 put-low-requires c κs =
-    let q = rw (c .before .before .c .given .1) at (c .before .before .before .before .before .pre) in
+    let after-c = c .before .before in
+    let start = after-c .before .before .before in
+    let q = rw (after-c .c .given .1) at (start .pre) in
     omega (arith, q)
 
 add-put-byte : tie.Need-add-put-byte
@@ -25,7 +27,9 @@ add-put-byte c = search needs
 
 put-byte-requires : tie.Need-put-byte-requires
 put-byte-requires c κs =
-    let q = rw (c .before .before .before .before .before .before .c .given .1) at (c .before .before .before .before .before .before .before .before .before .pre) in
+    let after-c = c .before .before .before .before .before .before in
+    let start = after-c .before .before .before in
+    let q = rw (after-c .c .given .1) at (start .pre) in
     omega (arith, q)
 
 add-result : tie.Need-add-result
@@ -36,9 +40,16 @@ same-length c = search needs
 
 returns : tie.Need-returns
 returns c =
-    let a = c .before .before .before .before .before .before .before .before .before .before .before .before .args in
-    let g = c .before .before .before .before .before .before .before .before .before .c .given in
-    (rw (g .1, c .before .before .put-byte .ensures, c .before .before .before .before .before .before .put-low .ensures) (sets-more (a .out .now) (a .at) (lowBytes 4 (g .0 .0)) (g .0 .1 .0 ∷ [])), rw (g .1))
+    let after-put-byte = c .before .before in
+    let after-put-low = after-put-byte .before .before .before .before in
+    let after-c = after-put-low .before .before .before in
+    let start = after-c .before .before .before in
+    let a = start .args in
+    let g = after-c .c .given in (
+      rw (g .1, after-put-byte .put-byte .ensures, after-put-low .put-low .ensures)
+          (sets-more (a .out .now) (a .at) (lowBytes 4 (g .0 .0)) (g .0 .1 .0 ∷ [])),
+      rw (g .1),
+    )
 
 enum-told : tie.Need-enum-told
 enum-told c = search needs

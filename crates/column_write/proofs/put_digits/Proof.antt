@@ -21,7 +21,10 @@ add-put-byte c = search needs
 
 put-byte-requires-2 : tie.Need-put-byte-requires-2
 put-byte-requires-2 c κs =
-    let q = rw (sym (c .before .before .before .before .before .before .has-digits .ensures) ∙ c .before .before .before .before .before .if1 .taken) at (c .before .before .before .before .before .before .before .before .pre) in
+    let in-if1 = c .before .before .before .before .before in
+    let after-has-digits = in-if1 .before in
+    let start = after-has-digits .before .before in
+    let q = rw (sym (after-has-digits .has-digits .ensures) ∙ in-if1 .if1 .taken) at (start .pre) in
     omega (arith, q)
 
 add-result : tie.Need-add-result
@@ -32,9 +35,14 @@ same-length c = search needs
 
 returns : tie.Need-returns
 returns c =
-    let a = c .before .before .before .before .before .before .before .before .before .before .before .args in
-    let h = sym (c .before .before .before .before .before .before .before .before .before .has-digits .ensures) ∙ c .before .before .before .before .before .before .before .before .if1 .taken in
-    (rw (h, c .before .before .put-byte2 .ensures, c .before .before .before .before .before .before .put-byte .ensures) (sets-more (a .out .now) (a .at) (a .precision ∷ []) (a .scale ∷ [])), rw h)
+    let after-put-byte2 = c .before .before in
+    let after-put-byte = after-put-byte2 .before .before .before .before in
+    let in-if1 = after-put-byte .before .before in
+    let after-has-digits = in-if1 .before in
+    let start = after-has-digits .before .before in
+    let a = start .args in
+    let h = sym (after-has-digits .has-digits .ensures) ∙ in-if1 .if1 .taken in
+    (rw (h, after-put-byte2 .put-byte2 .ensures, after-put-byte .put-byte .ensures) (sets-more (a .out .now) (a .at) (a .precision ∷ []) (a .scale ∷ [])), rw h)
 
 returns-2 : tie.Need-returns-2
 returns-2 c =

@@ -14,11 +14,13 @@ enum-known-n c = search needs
 
 put-byte-requires : tie.Need-put-byte-requires
 put-byte-requires c κs =
-    let a = c .before .before .before .before .before .before .args in
-    let g = c .before .before .n .given in
-    let f = fitting (a .names .now) (g .0 .0) (g .0 .1 .0) (g .0 .1 .1 .0) (rw (g .1) at (c .before .before .before .before .before .before .pre .0)) in
+    let after-n = c .before .before in
+    let start = after-n .before .before .before .before in
+    let a = start .args in
+    let g = after-n .n .given in
+    let f = fitting (a .names .now) (g .0 .0) (g .0 .1 .0) (g .0 .1 .1 .0) (rw (g .1) at (start .pre .0)) in
     let l = length-names (a .names .now) (g .0 .0) (g .0 .1 .0) (g .0 .1 .1 .0) (f .database) (f .owner) (f .collection) in
-    let q = rw (g .1) at (c .before .before .before .before .before .before .pre .1) in
+    let q = rw (g .1) at (start .pre .1) in
     omega (arith, l, q)
 
 add-put-names : tie.Need-add-put-names
@@ -26,11 +28,13 @@ add-put-names c = search needs
 
 put-names-requires : tie.Need-put-names-requires
 put-names-requires c κs =
-    let a = c .before .before .before .before .before .before .before .before .before .before .args in
-    let g = c .before .before .before .before .before .before .n .given in
-    let f = fitting (a .names .now) (g .0 .0) (g .0 .1 .0) (g .0 .1 .1 .0) (rw (g .1) at (c .before .before .before .before .before .before .before .before .before .before .pre .0)) in
+    let after-n = c .before .before .before .before .before .before in
+    let start = after-n .before .before .before .before in
+    let a = start .args in
+    let g = after-n .n .given in
+    let f = fitting (a .names .now) (g .0 .0) (g .0 .1 .0) (g .0 .1 .1 .0) (rw (g .1) at (start .pre .0)) in
     let l = length-names (a .names .now) (g .0 .0) (g .0 .1 .0) (g .0 .1 .1 .0) (f .database) (f .owner) (f .collection) in
-    let q = rw (g .1) at (c .before .before .before .before .before .before .before .before .before .before .pre .1) in
+    let q = rw (g .1) at (start .pre .1) in
     (f .database, f .owner, f .collection, omega (arith, l, q))
 
 same-length : tie.Need-same-length
@@ -38,18 +42,25 @@ same-length c = search needs
 
 returns : tie.Need-returns
 returns c =
-    let a = c .before .before .before .before .before .before .before .before .before .before .before .before .before .args in
-    let g = c .before .before .before .before .before .before .before .before .before .n .given in
+    let after-put-names = c .before .before in
+    let after-put-byte = after-put-names .before .before .before .before in
+    let after-n = after-put-byte .before .before .before in
+    let start = after-n .before .before .before .before in
+    let a = start .args in
+    let g = after-n .n .given in
     let s = a .names .now in
-    rw (g .1, c .before .before .put-names .ensures, c .before .before .before .before .before .before .put-byte .ensures)
-    (sets-more (a .out .now) (a .at) (1 ∷ []) (nameBytes 1 (nameTold s (g .0 .0)) ++ (nameBytes 1 (nameTold s (g .0 .1 .0)) ++ nameBytes 2 (nameTold s (g .0 .1 .1 .0)))))
+    rw (g .1, after-put-names .put-names .ensures, after-put-byte .put-byte .ensures)
+    (sets-more (a .out .now) (a .at) (1 ∷ [])
+    (nameBytes 1 (nameTold s (g .0 .0)) ++ (nameBytes 1 (nameTold s (g .0 .1 .0)) ++ nameBytes 2 (nameTold s (g .0 .1 .1 .0)))))
 
 enum-told : tie.Need-enum-told
 enum-told c = search needs
 
 put-byte-requires-2 : tie.Need-put-byte-requires-2
 put-byte-requires-2 c κs =
-    let q = rw (c .before .enum-told .given .1) at (c .before .before .before .before .before .pre .1) in
+    let after-enum-told = c .before in
+    let start = after-enum-told .before .before .before .before in
+    let q = rw (after-enum-told .enum-told .given .1) at (start .pre .1) in
     omega (arith, q)
 
 same-length-2 : tie.Need-same-length-2

@@ -34,8 +34,14 @@ same-length c = search needs
 
 returns : tie.Need-returns
 returns c =
-    let a = c .before .before .before .before .before .before .before .before .before .before .args in
-    (rw (c .before .before .paste .ensures, c .before .before .before .before .before .before .put-low .ensures) (name-stored (a .out .now) (a .names .now) (a .at) (a .w) (a .n) (c .before .before .before .before .before .before .before .before .before .before .pre .0) (c .before .before .before .before .before .before .before .before .before .before .pre .1)), refl)
+    let after-paste = c .before .before in
+    let after-put-low = after-paste .before .before .before .before in
+    let start = after-put-low .before .before .before .before in
+    let a = start .args in (
+      rw (after-paste .paste .ensures, after-put-low .put-low .ensures)
+          (name-stored (a .out .now) (a .names .now) (a .at) (a .w) (a .n) (start .pre .0) (start .pre .1)),
+      refl,
+    )
 
 pub put-name-spec : {M : Type 1} → statement M
 put-name-spec =

@@ -26,16 +26,21 @@ same-length c = search needs
 
 returns : tie.Need-returns
 returns c =
-    let a = c .before .before .before .before .before .before .before .before .before .before .before .before .before .before .args in
+    let after-put-name3 = c .before .before in
+    let after-put-name2 = after-put-name3 .before .before .before .before in
+    let after-put-name = after-put-name2 .before .before .before .before in
+    let start = after-put-name .before .before .before .before in
+    let a = start .args in
     let s = a .names .now in
-    let p = c .before .before .before .before .before .before .before .before .before .before .before .before .before .before .pre in
+    let p = start .pre in
     let x = nameBytes 1 (nameTold s (a .database)) in
     let y = nameBytes 1 (nameTold s (a .owner)) in
     let z = nameBytes 2 (nameTold s (a .collection)) in
-    let e = c .before .before .before .before .before .before .before .before .before .before .put-name .ensures .1 ∙ ap (λ (k : ℕ). a .at + k) (sym (length-named s (a .database) 1 (p .0))) in
-    let f = c .before .before .before .before .before .before .put-name2 .ensures .1 ∙ ap (λ (k : ℕ). c .before .before .before .before .before .before .before .before .before .before .put-name .result + k) (sym (length-named s (a .owner) 1 (p .1))) in
-    rw (c .before .before .put-name3 .ensures .0, c .before .before .before .before .before .before .put-name2 .ensures .0, c .before .before .before .before .before .before .before .before .before .before .put-name .ensures .0)
-    (sets-then (sets (a .out .now) (a .at) x) (c .before .before .before .before .before .before .before .before .before .before .put-name .result) (c .before .before .before .before .before .before .put-name2 .result) y z f ∙ sets-then (a .out .now) (a .at) (c .before .before .before .before .before .before .before .before .before .before .put-name .result) x (y ++ z) e)
+    let e = after-put-name .put-name .ensures .1 ∙ ap (λ (k : ℕ). a .at + k) (sym (length-named s (a .database) 1 (p .0))) in
+    let f = after-put-name2 .put-name2 .ensures .1 ∙ ap (λ (k : ℕ). after-put-name .put-name .result + k) (sym (length-named s (a .owner) 1 (p .1))) in
+    rw (after-put-name3 .put-name3 .ensures .0, after-put-name2 .put-name2 .ensures .0, after-put-name .put-name .ensures .0)
+    (sets-then (sets (a .out .now) (a .at) x) (after-put-name .put-name .result) (after-put-name2 .put-name2 .result) y z f ∙ sets-then (a .out .now)
+    (a .at) (after-put-name .put-name .result) x (y ++ z) e)
 
 pub put-names-spec : {M : Type 1} → statement M
 put-names-spec =

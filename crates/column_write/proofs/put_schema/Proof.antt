@@ -11,16 +11,23 @@ is-xml-requires c κs = search needs
 
 put-marked-requires : tie.Need-put-marked-requires
 put-marked-requires c κs =
-    let h = is-xml (typeTold (c .before .before .before .before .before .args .t)) (sym (c .before .before .is-xml .ensures) ∙ c .before .if1 .taken) in
-    (c .before .before .before .before .before .pre .0, rw h at (c .before .before .before .before .before .pre .1))
+    let in-if1 = c .before in
+    let after-is-xml = in-if1 .before in
+    let start = after-is-xml .before .before .before in
+    let h = is-xml (typeTold (start .args .t)) (sym (after-is-xml .is-xml .ensures) ∙ in-if1 .if1 .taken) in
+    (start .pre .0, rw h at (start .pre .1))
 
 same-length : tie.Need-same-length
 same-length c = search needs
 
 returns : tie.Need-returns
 returns c =
-    let h = is-xml (typeTold (c .before .before .before .before .before .before .before .before .args .t)) (sym (c .before .before .before .before .before .is-xml .ensures) ∙ c .before .before .before .before .if1 .taken) in
-    rw h (c .before .before .put-marked .ensures)
+    let after-put-marked = c .before .before in
+    let in-if1 = after-put-marked .before .before in
+    let after-is-xml = in-if1 .before in
+    let start = after-is-xml .before .before .before in
+    let h = is-xml (typeTold (start .args .t)) (sym (after-is-xml .is-xml .ensures) ∙ in-if1 .if1 .taken) in
+    rw h (after-put-marked .put-marked .ensures)
 
 returns-2 : tie.Need-returns-2
 returns-2 c =

@@ -25,19 +25,48 @@ collation-size-requires c κs = search needs
 
 add-result-3 : tie.Need-add-result-3
 add-result-3 c =
-    omega (arith, length-width (typeTold (c .before .before .before .before .args .c .ty)), c .before .before .length-width .ensures, c .before .digits-size .ensures .1, c .collation-size .ensures .1)
+    omega (
+      arith,
+      length-width (typeTold (c .before .before .before .before .args .c .ty)),
+      c .before .before .length-width .ensures,
+      c .before .digits-size
+          .ensures .1,
+      c .collation-size .ensures .1,
+    )
 
 schema-size-requires : tie.Need-schema-size-requires
 schema-size-requires c κs = search needs
 
 add-result-4 : tie.Need-add-result-4
 add-result-4 c =
-    omega (arith, length-width (typeTold (c .before .before .before .before .before .args .c .ty)), c .before .before .before .length-width .ensures, c .before .before .digits-size .ensures .1, c .before .collation-size .ensures .1, c .schema-size .ensures .1)
+    let after-collation-size = c .before in
+    let after-digits-size = after-collation-size .before in
+    let after-length-width = after-digits-size .before in
+    let start = after-length-width .before .before in
+    omega (
+      arith,
+      length-width (typeTold (start .args .c .ty)),
+      after-length-width .length-width .ensures,
+      after-digits-size .digits-size .ensures .1,
+      after-collation-size .collation-size .ensures .1,
+      c .schema-size .ensures .1,
+    )
 
 returns : tie.Need-returns
 returns c =
-    let a = c .before .before .before .before .before .args in
-    rw (length-column (columnTold (a .names .now) (a .c)), c .before .before .before .length-width .ensures, c .before .before .digits-size .ensures .0 (a .c .precision) (a .c .scale), c .before .collation-size .ensures .0, c .schema-size .ensures .0)
+    let after-collation-size = c .before in
+    let after-digits-size = after-collation-size .before in
+    let after-length-width = after-digits-size .before in
+    let start = after-length-width .before .before in
+    let a = start .args in
+    rw (
+      length-column (columnTold (a .names .now) (a .c)),
+      after-length-width .length-width .ensures,
+      after-digits-size .digits-size .ensures .0
+          (a .c .precision) (a .c .scale),
+      after-collation-size .collation-size .ensures .0,
+      c .schema-size .ensures .0,
+    )
 
 pub size-of-spec : {M : Type 1} → statement M
 size-of-spec =

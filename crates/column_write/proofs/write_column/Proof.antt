@@ -19,18 +19,24 @@ enum-known-n c = search needs
 
 returns : tie.Need-returns
 returns c =
-    let a = c .before .before .before .before .before .before .before .args in
+    let after-n = c .before .before in
+    let after-column-size = after-n .before .before in
+    let start = after-column-size .before .before .before in
+    let a = start .args in
     let k = columnTold (a .names .now) (a .c) in
-    let g = c .before .before .n .given in
-    let z = sized k (g .0 .0) (sym (ap wroteTold (g .1)) ∙ c .before .before .before .before .column-size .ensures) in
+    let g = after-n .n .given in
+    let z = sized k (g .0 .0) (sym (ap wroteTold (g .1)) ∙ after-column-size .column-size .ensures) in
     rw (z .0) (no-room (columnBytes k) (a .out .now) (omega (arith, z .2)))
 
 put-column-requires : tie.Need-put-column-requires
 put-column-requires c κs =
-    let a = c .before .before .before .before .before .before .before .before .args in
+    let after-n = c .before .before .before in
+    let after-column-size = after-n .before .before in
+    let start = after-column-size .before .before .before in
+    let a = start .args in
     let k = columnTold (a .names .now) (a .c) in
-    let g = c .before .before .before .n .given in
-    let z = sized k (g .0 .0) (sym (ap wroteTold (g .1)) ∙ c .before .before .before .before .before .column-size .ensures) in
+    let g = after-n .n .given in
+    let z = sized k (g .0 .0) (sym (ap wroteTold (g .1)) ∙ after-column-size .column-size .ensures) in
     (z .1, omega (arith, z .2))
 
 enum-known-e : tie.Need-enum-known-e
@@ -41,18 +47,26 @@ same-length c = search needs
 
 returns-2 : tie.Need-returns-2
 returns-2 c =
-    let a = c .before .before .before .before .before .before .before .before .before .before .before .args in
+    let after-put-column = c .before .before in
+    let after-n = after-put-column .before .before .before .before in
+    let after-column-size = after-n .before .before in
+    let start = after-column-size .before .before .before in
+    let a = start .args in
     let k = columnTold (a .names .now) (a .c) in
-    let g = c .before .before .before .before .before .before .n .given in
-    let z = sized k (g .0 .0) (sym (ap wroteTold (g .1)) ∙ c .before .before .before .before .before .before .before .before .column-size .ensures) in
+    let g = after-n .n .given in
+    let z = sized k (g .0 .0) (sym (ap wroteTold (g .1)) ∙ after-column-size .column-size .ensures) in
     let h = has-room (columnBytes k) (a .out .now) (g .0 .0) (z .2) (omega (arith, z .2)) in
-    rw (z .0) (h .0, c .before .before .put-column .ensures ∙ (sets-front (a .out .now) (columnBytes k) (omega (arith, z .2)) ∙ h .1))
+    rw (z .0) (h .0, after-put-column .put-column .ensures ∙ (sets-front (a .out .now) (columnBytes k) (omega (arith, z .2)) ∙ h .1))
 
 returns-3 : tie.Need-returns-3
 returns-3 c =
-    let a = c .before .before .before .before .before .before .args in
-    let g = c .before .e .given in
-    refused-before (writeColumn (columnTold (a .names .now) (a .c))) (a .out .now) (refusalTold (g .0 .0)) (sym (ap wroteTold (g .1)) ∙ c .before .before .before .column-size .ensures)
+    let after-e = c .before in
+    let after-column-size = after-e .before .before in
+    let start = after-column-size .before .before .before in
+    let a = start .args in
+    let g = after-e .e .given in
+    refused-before (writeColumn (columnTold (a .names .now) (a .c))) (a .out .now) (refusalTold (g .0 .0))
+    (sym (ap wroteTold (g .1)) ∙ after-column-size .column-size .ensures)
 
 pub write-column-spec : {M : Type 1} → statement M
 write-column-spec =

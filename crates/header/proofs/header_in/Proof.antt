@@ -29,10 +29,13 @@ enum-told c = search needs
 
 returns-2 : tie.Need-returns-2
 returns-2 c =
-    let a = c .before .before .before .before .before .before .args in
+    let after-type-of = c .before .before in
+    let in-if1 = after-type-of .before .before in
+    let start = in-if1 .before .before in
+    let a = start .args in
     let r = a .rest .now in
-    let l = c .before .before .before .before .if1 .left in
-    let t = known-refuses packetTypes (getD r 0 0) (sym (ap typeTold (c .enum-told .given .1)) ∙ c .before .before .type-of .ensures) in
+    let l = in-if1 .if1 .left in
+    let t = known-refuses packetTypes (getD r 0 0) (sym (ap typeTold (c .enum-told .given .1)) ∙ after-type-of .type-of .ensures) in
     sym (ap (further (a .at)) (header-type r l t))
 
 shared-slice-read-status-of : tie.Need-shared-slice-read-status-of
@@ -49,11 +52,16 @@ enum-told-2 c = search needs
 
 returns-3 : tie.Need-returns-3
 returns-3 c =
-    let a = c .before .before .before .before .before .before .before .before .before .before .before .args in
+    let after-status-of = c .before .before in
+    let after-ty = after-status-of .before .before .before in
+    let after-type-of = after-ty .before .before in
+    let in-if1 = after-type-of .before .before in
+    let start = in-if1 .before .before in
+    let a = start .args in
     let r = a .rest .now in
-    let l = c .before .before .before .before .before .before .before .before .before .if1 .left in
-    let t = known-gives packetTypes _ (getD r 0 0) (sym (ap typeTold (c .before .before .before .before .before .ty .given .1)) ∙ c .before .before .before .before .before .before .before .type-of .ensures) in
-    let u = known-refuses packetStatuses (getD r 1 0) (sym (ap statusTold (c .enum-told2 .given .1)) ∙ c .before .before .status-of .ensures) in
+    let l = in-if1 .if1 .left in
+    let t = known-gives packetTypes _ (getD r 0 0) (sym (ap typeTold (after-ty .ty .given .1)) ∙ after-type-of .type-of .ensures) in
+    let u = known-refuses packetStatuses (getD r 1 0) (sym (ap statusTold (c .enum-told2 .given .1)) ∙ after-status-of .status-of .ensures) in
     sym (ap (further (a .at)) (header-status r l (t .0) u))
 
 high-at-requires : tie.Need-high-at-requires
@@ -79,12 +87,20 @@ add-t7 c = search needs
 
 returns-4 : tie.Need-returns-4
 returns-4 c =
-    let a = c .before .before .before .before .before .before .before .before .before .before .before .before .before .before .before .before .args in
+    let after-high-at2 = c .before .before in
+    let after-high-at = after-high-at2 .before in
+    let after-status = after-high-at .before .before in
+    let after-status-of = after-status .before .before in
+    let after-ty = after-status-of .before .before .before in
+    let after-type-of = after-ty .before .before in
+    let in-if1 = after-type-of .before .before in
+    let start = in-if1 .before .before in
+    let a = start .args in
     let r = a .rest .now in
-    let l = c .before .before .before .before .before .before .before .before .before .before .before .before .before .before .if1 .left in
-    let t = known-gives packetTypes _ (getD r 0 0) (sym (ap typeTold (c .before .before .before .before .before .before .before .before .before .before .ty .given .1)) ∙ c .before .before .before .before .before .before .before .before .before .before .before .before .type-of .ensures) in
-    let u = known-gives packetStatuses _ (getD r 1 0) (sym (ap statusTold (c .before .before .before .before .before .status .given .1)) ∙ c .before .before .before .before .before .before .before .status-of .ensures) in
-    rw (t .1, u .1, c .before .before .before .high-at .ensures .0, c .before .before .high-at2 .ensures .0) (sym (ap (further (a .at)) (header-there r l (t .0) (u .0))))
+    let l = in-if1 .if1 .left in
+    let t = known-gives packetTypes _ (getD r 0 0) (sym (ap typeTold (after-ty .ty .given .1)) ∙ after-type-of .type-of .ensures) in
+    let u = known-gives packetStatuses _ (getD r 1 0) (sym (ap statusTold (after-status .status .given .1)) ∙ after-status-of .status-of .ensures) in
+    rw (t .1, u .1, after-high-at .high-at .ensures .0, after-high-at2 .high-at2 .ensures .0) (sym (ap (further (a .at)) (header-there r l (t .0) (u .0))))
 
 pub header-in-spec : {M : Type 1} → statement M
 header-in-spec =

@@ -41,8 +41,12 @@ put-high-requires-2 : tie.Need-put-high-requires-2
 put-high-requires-2 c κs = omega (arith, simp length-set at (c .before .before .before .before .put-high .kept .0))
 
 -- the callees keep the length
-kept : (c : tie.After-slice-known3) → length (c .before .before .put-high2 .last .0) ≡ length (c .before .before .before .before .before .before .before .before .before .before .before .before .before .before .args .out .now)
-kept c = c .before .before .put-high2 .kept .0 ∙ (c .before .before .before .before .before .before .before .put-high .kept .0 ∙ simp length-set)
+kept : (c : tie.After-slice-known3) →
+    length (c .before .before .put-high2 .last .0) ≡ length (c .before .before .before .before .before .before .before .before .before .before .before .before .before .before .args .out .now)
+kept c =
+    let after-put-high2 = c .before .before in
+    let after-put-high = after-put-high2 .before .before .before .before .before in
+    after-put-high2 .put-high2 .kept .0 ∙ (after-put-high .put-high .kept .0 ∙ simp length-set)
 
 slice-write-out-3 : tie.Need-slice-write-out-3
 slice-write-out-3 c = omega (arith, kept c)
@@ -56,12 +60,20 @@ same-length c = simp length-set (kept c)
 returns-2 : tie.Need-returns-2
 unfolding writeHeader
 returns-2 c =
-    let a = c .before .before .before .before .before .before .before .before .before .before .before .before .before .before .args in
+    let after-put-high2 = c .before .before in
+    let after-put-high = after-put-high2 .before .before .before .before .before in
+    let after-status-byte = after-put-high .before .before .before in
+    let after-type-byte = after-status-byte .before in
+    let in-if1 = after-type-byte .before in
+    let start = in-if1 .before .before in
+    let a = start .args in
     let b = headerBytes (headerFields (a .h)) in
-    let l = c .before .before .before .before .before .before .before .before .before .before .before .before .if1 .left in
+    let l = in-if1 .if1 .left in
     let h = has-room b (a .out .now) 8 refl l in (
       h .0,
-      rw (c .before .before .put-high2 .ensures, c .before .before .before .before .before .before .before .put-high .ensures, c .before .before .before .before .before .before .before .before .before .before .status-byte .ensures, c .before .before .before .before .before .before .before .before .before .before .before .type-byte .ensures) (sets-front (a .out .now) b l ∙ h .1),
+      rw
+          (after-put-high2 .put-high2 .ensures, after-put-high .put-high .ensures, after-status-byte .status-byte .ensures, after-type-byte .type-byte .ensures)
+          (sets-front (a .out .now) b l ∙ h .1),
     )
 
 pub write-header-spec : {M : Type 1} → statement M

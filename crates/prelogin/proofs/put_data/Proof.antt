@@ -51,8 +51,25 @@ same-length c = search needs
 
 returns : tie.Need-returns
 returns c =
-    let a = c .before .before .before .before .before .before .before .before .before .before .before .before .before .before .before .before .before .before .before .before .before .before .before .before .before .before .args in
-    rw (c .before .before .put-byte2 .ensures, c .before .before .before .truth-byte .ensures, c .before .before .before .before .before .before .before .put-high3 .ensures, c .before .before .before .before .before .before .before .before .before .before .before .before .put-byte .ensures, c .before .before .before .before .before .before .before .before .before .before .before .before .before .encryption-byte .ensures, c .before .before .before .before .before .before .before .before .before .before .before .before .before .before .before .before .before .put-high2 .ensures, c .before .before .before .before .before .before .before .before .before .before .before .before .before .before .before .before .before .before .before .before .before .before .put-high .ensures)
+    let after-put-byte2 = c .before .before in
+    let after-truth-byte = after-put-byte2 .before in
+    let after-put-high3 = after-truth-byte .before .before .before .before in
+    let after-put-byte = after-put-high3 .before .before .before .before .before in
+    let after-encryption-byte = after-put-byte .before in
+    let after-put-high2 = after-encryption-byte .before .before .before .before in
+    let after-put-high = after-put-high2 .before .before .before .before .before in
+    let start = after-put-high .before .before .before .before in
+    let a = start .args in
+    rw (
+      after-put-byte2 .put-byte2 .ensures,
+      after-truth-byte .truth-byte .ensures,
+      after-put-high3 .put-high3 .ensures,
+      after-put-byte .put-byte
+          .ensures,
+      after-encryption-byte .encryption-byte .ensures,
+      after-put-high2 .put-high2 .ensures,
+      after-put-high .put-high .ensures,
+    )
     (data-stored (a .out .now) (a .at) (a .p))
 
 pub put-data-spec : {M : Type 1} → statement M

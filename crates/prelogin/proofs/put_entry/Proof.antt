@@ -23,7 +23,13 @@ same-length : tie.Need-same-length
 same-length c = search needs
 
 returns : tie.Need-returns
-returns c = let a = c .before .before .before .before .before .before .before .before .before .before .before .before .before .args in rw (c .before .before .put-high2 .ensures, c .before .before .before .before .before .before .put-high .ensures, c .before .before .before .before .before .before .before .before .before .before .put-byte .ensures) (entry-stored (a .out .now) (a .at) (a .token) (a .offset) (a .count))
+returns c =
+    let after-put-high2 = c .before .before in
+    let after-put-high = after-put-high2 .before .before .before .before in
+    let after-put-byte = after-put-high .before .before .before .before in
+    let start = after-put-byte .before .before .before in
+    let a = start .args in rw (after-put-high2 .put-high2 .ensures, after-put-high .put-high .ensures, after-put-byte .put-byte .ensures)
+    (entry-stored (a .out .now) (a .at) (a .token) (a .offset) (a .count))
 
 pub put-entry-spec : {M : Type 1} → statement M
 put-entry-spec =

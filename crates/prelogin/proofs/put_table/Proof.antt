@@ -29,7 +29,21 @@ same-length : tie.Need-same-length
 same-length c = search needs
 
 returns : tie.Need-returns
-returns c = let a = c .before .before .before .before .before .before .before .before .before .before .before .before .before .before .before .before .before .args in rw (c .before .before .put-entry4 .ensures, c .before .before .before .before .before .before .put-entry3 .ensures, c .before .before .before .before .before .before .before .before .before .before .put-entry2 .ensures, c .before .before .before .before .before .before .before .before .before .before .before .before .before .before .put-entry .ensures) (table-stored (a .out .now) (a .start))
+returns c =
+    let after-put-entry4 = c .before .before in
+    let after-put-entry3 = after-put-entry4 .before .before .before .before in
+    let after-put-entry2 = after-put-entry3 .before .before .before .before in
+    let after-put-entry = after-put-entry2 .before .before .before .before in
+    let start = after-put-entry .before .before .before in
+    let a = start .args in
+    rw (
+      after-put-entry4 .put-entry4 .ensures,
+      after-put-entry3 .put-entry3 .ensures,
+      after-put-entry2 .put-entry2 .ensures,
+      after-put-entry .put-entry
+          .ensures,
+    )
+    (table-stored (a .out .now) (a .start))
 
 pub put-table-spec : {M : Type 1} → statement M
 put-table-spec =

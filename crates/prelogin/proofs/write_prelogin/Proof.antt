@@ -37,11 +37,21 @@ same-length c = search needs
 returns-2 : tie.Need-returns-2
 unfolding writePrelogin
 returns-2 c =
-    let a = c .before .before .before .before .before .before .before .before .before .before .before .before .before .before .before .before .before .before .before .before .before .before .before .args in
-    let t = c .before .before .before .before .before .before .before .before .before .before .before .before .before .before .before .before .before .before .before .before .before .if1 .taken in
+    let after-put-byte2 = c .before .before in
+    let after-put-data = after-put-byte2 .before .before .before .before in
+    let after-put-byte = after-put-data .before .before .before .before in
+    let after-put-entry = after-put-byte .before .before .before .before in
+    let after-put-table = after-put-entry .before .before .before .before in
+    let in-if1 = after-put-table .before .before .before in
+    let start = in-if1 .before .before in
+    let a = start .args in
+    let t = in-if1 .if1 .taken in
     let l = longer-length (a .out .now) (a .p) t in
     let h = has-room (bytes (a .p)) (a .out .now) 39 l (omega (arith, l)) in
-    let e = rw (c .before .before .before .before .before .before .put-data .ensures, c .before .before .before .before .before .before .before .before .before .before .put-byte .ensures, c .before .before .before .before .before .before .before .before .before .before .before .before .before .before .put-entry .ensures, c .before .before .before .before .before .before .before .before .before .before .before .before .before .before .before .before .before .before .put-table .ensures) at (c .before .before .put-byte2 .ensures) in
+    let e =
+    rw
+    (after-put-data .put-data .ensures, after-put-byte .put-byte .ensures, after-put-entry .put-entry .ensures, after-put-table .put-table .ensures)
+    at (after-put-byte2 .put-byte2 .ensures) in
     (h .0, e ∙ (longer-stored (a .out .now) (a .p) t ∙ (sets-front (a .out .now) (bytes (a .p)) (omega (arith, l)) ∙ h .1)))
 
 returns-3 : tie.Need-returns-3
@@ -66,11 +76,16 @@ same-length-2 c = search needs
 returns-4 : tie.Need-returns-4
 unfolding writePrelogin
 returns-4 c =
-    let a = c .before .before .before .before .before .before .before .before .before .before .before .before .before .before .before .args in
-    let t = c .before .before .before .before .before .before .before .before .before .before .before .before .before .if1 .left in
+    let after-put-data2 = c .before .before in
+    let after-put-byte3 = after-put-data2 .before .before .before .before in
+    let after-put-table2 = after-put-byte3 .before .before .before .before in
+    let in-if1 = after-put-table2 .before .before .before in
+    let start = in-if1 .before .before in
+    let a = start .args in
+    let t = in-if1 .if1 .left in
     let l = shorter-length (a .out .now) (a .p) t in
     let h = has-room (bytes (a .p)) (a .out .now) 33 l (omega (arith, l)) in
-    let e = rw (c .before .before .before .before .before .before .put-byte3 .ensures, c .before .before .before .before .before .before .before .before .before .before .put-table2 .ensures) at (c .before .before .put-data2 .ensures) in
+    let e = rw (after-put-byte3 .put-byte3 .ensures, after-put-table2 .put-table2 .ensures) at (after-put-data2 .put-data2 .ensures) in
     (h .0, e ∙ (shorter-stored (a .out .now) (a .p) t ∙ (sets-front (a .out .now) (bytes (a .p)) (omega (arith, l)) ∙ h .1)))
 
 pub write-prelogin-spec : {M : Type 1} → statement M

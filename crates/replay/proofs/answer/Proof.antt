@@ -21,7 +21,10 @@ slice-relend-prefix-in-room : tie.Need-slice-relend-prefix-in-room
 slice-relend-prefix-in-room c = search needs
 
 slice-aggregate-in-room : tie.Need-slice-aggregate-in-room
-slice-aggregate-in-room c = sym (length-take-le (c .before .size .result) (c .before .before .before .before .before .before .before .before .args .room .now) (c .before .size .ensures))
+slice-aggregate-in-room c =
+    let after-size = c .before in
+    let start = after-size .before .before .before .before .before .before .before in
+    sym (length-take-le (after-size .size .result) (start .args .room .now) (after-size .size .ensures))
 
 in-room-requires : tie.Need-in-room-requires
 in-room-requires c κs = search needs

@@ -25,7 +25,10 @@ slice-relend-prefix-filled : tie.Need-slice-relend-prefix-filled
 slice-relend-prefix-filled c = search needs
 
 slice-aggregate-filled : tie.Need-slice-aggregate-filled
-slice-aggregate-filled c = sym (length-take-le (c .before .before .before .count .given .0 .0) (c .before .before .before .before .before .before .before .before .args .frame .now) (omega arith))
+slice-aggregate-filled c =
+    let after-count = c .before .before .before in
+    let start = after-count .before .before .before .before .before in
+    sym (length-take-le (after-count .count .given .0 .0) (start .args .frame .now) (omega arith))
 
 filled-requires : tie.Need-filled-requires
 filled-requires c κs = search needs

@@ -22,15 +22,18 @@ enum-known-size c = search needs
 
 returns : tie.Need-returns
 returns c =
-    let w = c .before .before in
-    let a = w .before .before .before .before .before .args in
-    sized-short (textOut (now (a .u))) (now (a .out)) (w .size .given .0 .0) (found w) (c .if1 .taken)
+    let after-size = c .before .before in
+    let start = after-size .before .before .before .before .before in
+    let a = start .args in
+    sized-short (textOut (now (a .u))) (now (a .out)) (after-size .size .given .0 .0) (found after-size) (c .if1 .taken)
 
 put-utf8-requires : tie.Need-put-utf8-requires
 put-utf8-requires c κs =
-    let w = c .before .before .before in
-    let a = w .before .before .before .before .before .args in
-    sized-fits (now (a .out)) (w .size .given .0 .0) (textOut (now (a .u))) (found w) (c .before .if1 .left)
+    let in-if1 = c .before in
+    let after-size = in-if1 .before .before in
+    let start = after-size .before .before .before .before .before in
+    let a = start .args in
+    sized-fits (now (a .out)) (after-size .size .given .0 .0) (textOut (now (a .u))) (found after-size) (in-if1 .if1 .left)
 
 enum-known-size-2 : tie.Need-enum-known-size-2
 enum-known-size-2 c = search needs
@@ -40,15 +43,21 @@ same-length c = search needs
 
 returns-2 : tie.Need-returns-2
 returns-2 c =
-    let e = c .before .before .before .before in
-    let w = e .before .before in
-    let a = w .before .before .before .before .before .args in
-    sized-written (now (a .out)) (w .size .given .0 .0) (textOut (now (a .u))) _ (found w) (e .if1 .left) (c .before .before .put-utf8 .ensures)
+    let after-put-utf8 = c .before .before in
+    let in-if1 = after-put-utf8 .before .before in
+    let after-size = in-if1 .before .before in
+    let start = after-size .before .before .before .before .before in
+    let a = start .args in
+    sized-written (now (a .out)) (after-size .size .given .0 .0) (textOut (now (a .u))) _ (found after-size) (in-if1 .if1 .left)
+    (after-put-utf8 .put-utf8 .ensures)
 
 returns-3 : tie.Need-returns-3
 returns-3 c =
-    let a = c .before .before .before .before .before .before .args in
-    refused-before (textOut (now (a .u))) (now (a .out)) _ (sym (ap wroteTold (c .before .size2 .given .1)) ∙ c .before .before .before .utf8-size .ensures)
+    let after-size2 = c .before in
+    let after-utf8-size = after-size2 .before .before in
+    let start = after-utf8-size .before .before .before in
+    let a = start .args in
+    refused-before (textOut (now (a .u))) (now (a .out)) _ (sym (ap wroteTold (after-size2 .size2 .given .1)) ∙ after-utf8-size .utf8-size .ensures)
 
 pub to-utf8-spec : {M : Type 1} → statement M
 to-utf8-spec =

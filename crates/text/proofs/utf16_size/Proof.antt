@@ -18,7 +18,8 @@ abbrev μ-loop : tie.MeasureT-loop
 μ-loop s at₀ n₀ at n = length s - at
 
 -- the character that was read, and how long it is in UTF-16LE
-read : (c : tie.After-t Inv-loop μ-loop) → let l = c .before .before .before .before in Stands char8 (now (l .before .before .args .s)) (l .loop .at) (c .t .given .0 .0) (c .t .given .0 .1 .0)
+read : (c : tie.After-t Inv-loop μ-loop) → let l =
+    c .before .before .before .before in Stands char8 (now (l .before .before .args .s)) (l .loop .at) (c .t .given .0 .0) (c .t .given .0 .1 .0)
 read c = stands8 (c .before .before .before .loop-test .taken) (sym (ap charTold (c .t .given .1)) ∙ c .before .before .char8-at .ensures)
 
 long : (c : tie.After-size16 Inv-loop μ-loop) → c .size16 .result ≤ 2 * c .before .before .t .given .0 .1 .0
@@ -37,16 +38,28 @@ size16-requires : tie.Need-size16-requires Inv-loop μ-loop
 size16-requires c κs = search needs
 
 add-n : tie.Need-add-n Inv-loop μ-loop
-add-n c = omega (arith, read (c .before .before), long c, c .before .before .before .before .before .before .before .before .good)
+add-n c =
+    let after-before = c .before in
+    let place-2 = after-before .before in
+    let start = place-2 .before .before .before .before .before .before in
+    omega (arith, read (after-before .before), long c, start .good)
 
 add-at : tie.Need-add-at Inv-loop μ-loop
-add-at c = omega (arith, read (c .before .before), c .before .before .before .before .before .before .before .before .good)
+add-at c =
+    let after-before = c .before in
+    let place-2 = after-before .before in
+    let start = place-2 .before .before .before .before .before .before in
+    omega (arith, read (after-before .before), start .good)
 
 loop-less : tie.Need-loop-less Inv-loop μ-loop
 loop-less c = omega (arith, read (c .before .before))
 
 loop-again : tie.Need-loop-again Inv-loop μ-loop
-loop-again c = (size-more (c .before .before .before .before .before .before .loop .inv .0) (c .size16 .ensures) (read (c .before .before)), omega (arith, long c))
+loop-again c =
+    let after-before = c .before in
+    let place-2 = after-before .before in
+    let at-loop = place-2 .before .before .before .before in
+    (size-more (at-loop .loop .inv .0) (c .size16 .ensures) (read (after-before .before)), omega (arith, long c))
 
 enum-known-t-2 : tie.Need-enum-known-t-2 Inv-loop μ-loop
 enum-known-t-2 c = search needs
@@ -54,13 +67,17 @@ enum-known-t-2 c = search needs
 returns : tie.Need-returns Inv-loop μ-loop
 unfolding textIn
 returns c =
-    let i = c .before .before .before .before in
-    let l = i .before in
-    size-stop (l .loop .inv .0) (i .loop-test .taken) (sym (ap charTold (c .before .t2 .given .1)) ∙ c .before .before .before .char8-at .ensures)
+    let after-t2 = c .before in
+    let after-char8-at = after-t2 .before .before in
+    let in-loop = after-char8-at .before in
+    let at-loop = in-loop .before in
+    size-stop (at-loop .loop .inv .0) (in-loop .loop-test .taken) (sym (ap charTold (after-t2 .t2 .given .1)) ∙ after-char8-at .char8-at .ensures)
 
 returns-2 : tie.Need-returns-2 Inv-loop μ-loop
 unfolding textIn
-returns-2 c = let l = c .before in size-end (l .loop .inv .0) (c .loop-test .left)
+returns-2 c =
+    let at-loop = c .before in
+    size-end (at-loop .loop .inv .0) (c .loop-test .left)
 
 pub utf16-size-spec : {M : Type 1} → statement M
 utf16-size-spec =

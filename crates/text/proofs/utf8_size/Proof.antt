@@ -24,11 +24,19 @@ bytes : (c : tie.At-loop Inv-loop μ-loop) → Bytes (now (c .before .before .be
 bytes c i = omega (arith, c .before .before .shared-slice-known .given i)
 
 -- the character that was read, and how long it is in UTF-8
-read : (c : tie.After-t Inv-loop μ-loop) → let l = c .before .before .before .before in Stands char16 (now (l .before .before .before .args .u)) (l .loop .at) (c .t .given .0 .0) (c .t .given .0 .1 .0)
-read c = stands16 (bytes (c .before .before .before .before)) (c .before .before .before .loop-test .taken) (sym (ap charTold (c .t .given .1)) ∙ c .before .before .char16-at .ensures)
+read : (c : tie.After-t Inv-loop μ-loop) → let l =
+    c .before .before .before .before in Stands char16 (now (l .before .before .before .args .u)) (l .loop .at) (c .t .given .0 .0) (c .t .given .0 .1 .0)
+read c =
+    stands16 (bytes (c .before .before .before .before)) (c .before .before .before .loop-test .taken)
+    (sym (ap charTold (c .t .given .1)) ∙ c .before .before .char16-at .ensures)
 
 long : (c : tie.After-size8 Inv-loop μ-loop) → 2 * c .size8 .result ≤ 3 * c .before .before .t .given .0 .1 .0
-long c = rw (c .size8 .ensures) (long16 (bytes (c .before .before .before .before .before .before)) (read (c .before .before)))
+long c =
+    let after-before = c .before in
+    let place-2 = after-before .before in
+    let after-before′ = place-2 .before .before .before in
+    let place-6 = after-before′ .before in
+    rw (c .size8 .ensures) (long16 (bytes (after-before′ .before)) (read (after-before .before)))
 
 returns : tie.Need-returns Inv-loop μ-loop
 unfolding wrote
@@ -47,29 +55,49 @@ size8-requires : tie.Need-size8-requires Inv-loop μ-loop
 size8-requires c κs = search needs
 
 add-m : tie.Need-add-m Inv-loop μ-loop
-add-m c = omega (arith, read (c .before .before), long c, c .before .before .before .before .before .before .before .before .before .good)
+add-m c =
+    let after-before = c .before in
+    let place-2 = after-before .before in
+    let start = place-2 .before .before .before .before .before .before .before in
+    omega (arith, read (after-before .before), long c, start .good)
 
 add-at : tie.Need-add-at Inv-loop μ-loop
-add-at c = omega (arith, read (c .before .before), c .before .before .before .before .before .before .before .before .before .good)
+add-at c =
+    let after-before = c .before in
+    let place-2 = after-before .before in
+    let start = place-2 .before .before .before .before .before .before .before in
+    omega (arith, read (after-before .before), start .good)
 
 loop-less : tie.Need-loop-less Inv-loop μ-loop
 loop-less c = omega (arith, read (c .before .before))
 
 loop-again : tie.Need-loop-again Inv-loop μ-loop
-loop-again c = (size-more (c .before .before .before .before .before .before .loop .inv .0) (c .size8 .ensures) (read (c .before .before)), omega (arith, long c))
+loop-again c =
+    let after-before = c .before in
+    let place-2 = after-before .before in
+    let at-loop = place-2 .before .before .before .before in
+    (size-more (at-loop .loop .inv .0) (c .size8 .ensures) (read (after-before .before)), omega (arith, long c))
 
 enum-known-t-2 : tie.Need-enum-known-t-2 Inv-loop μ-loop
 enum-known-t-2 c = search needs
 
 returns-2 : tie.Need-returns-2 Inv-loop μ-loop
 returns-2 c =
-    let i = c .before .before .before .before in
-    let l = i .before in
-    size-stop (l .loop .inv .0) (i .loop-test .taken) (sym (ap charTold (c .before .t2 .given .1)) ∙ c .before .before .before .char16-at .ensures)
-    ∙ sym (ap wrote (out-even (now (l .before .before .before .args .u)) (l .before .if1 .left)))
+    let after-t2 = c .before in
+    let after-char16-at = after-t2 .before .before in
+    let in-loop = after-char16-at .before in
+    let at-loop = in-loop .before in
+    let in-if1 = at-loop .before in
+    let start = in-if1 .before .before in
+    size-stop (at-loop .loop .inv .0) (in-loop .loop-test .taken) (sym (ap charTold (after-t2 .t2 .given .1)) ∙ after-char16-at .char16-at .ensures)
+    ∙ sym (ap wrote (out-even (now (start .args .u)) (in-if1 .if1 .left)))
 
 returns-3 : tie.Need-returns-3 Inv-loop μ-loop
-returns-3 c = let l = c .before in size-end (l .loop .inv .0) (c .loop-test .left) ∙ sym (ap wrote (out-even (now (l .before .before .before .args .u)) (l .before .if1 .left)))
+returns-3 c =
+    let at-loop = c .before in
+    let in-if1 = at-loop .before in
+    let start = in-if1 .before .before in
+    size-end (at-loop .loop .inv .0) (c .loop-test .left) ∙ sym (ap wrote (out-even (now (start .args .u)) (in-if1 .if1 .left)))
 
 pub utf8-size-spec : {M : Type 1} → statement M
 utf8-size-spec =

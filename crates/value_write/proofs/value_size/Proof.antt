@@ -17,23 +17,33 @@ family-of-requires c κs = search needs
 
 cast-in-family : tie.Need-cast-in-family
 cast-in-family c =
-    let a = c .before .before .before .before .before .args in
-    record { fits = omega (arith, length-fits (columnTold (a .buffer .now) (a .c)) (sym (c .before .before .before .keeps-rule .ensures (a .buffer .now)) ∙ c .before .before .if1 .taken)) }
+    let in-if1 = c .before .before in
+    let after-keeps-rule = in-if1 .before in
+    let start = after-keeps-rule .before .before in
+    let a = start .args in
+    record
+    { fits = omega (arith, length-fits (columnTold (a .buffer .now) (a .c)) (sym (after-keeps-rule .keeps-rule .ensures (a .buffer .now)) ∙ in-if1 .if1 .taken)) }
 
 in-family-requires : tie.Need-in-family-requires
 in-family-requires c κs = search needs
 
 returns : tie.Need-returns
 returns c =
-    let a = c .before .before .before .before .before .before .args in
-    let k = sym (c .before .before .before .before .keeps-rule .ensures (a .buffer .now)) ∙ c .before .before .before .if1 .taken in
-    rw (rule-kept (columnTold (a .buffer .now) (a .c)) (valueTold (a .buffer .now) (a .v)) k, ← c .before .before .family-of .ensures) (c .in-family .ensures)
+    let after-family-of = c .before .before in
+    let in-if1 = after-family-of .before in
+    let after-keeps-rule = in-if1 .before in
+    let start = after-keeps-rule .before .before in
+    let a = start .args in
+    let k = sym (after-keeps-rule .keeps-rule .ensures (a .buffer .now)) ∙ in-if1 .if1 .taken in
+    rw (rule-kept (columnTold (a .buffer .now) (a .c)) (valueTold (a .buffer .now) (a .v)) k, ← after-family-of .family-of .ensures) (c .in-family .ensures)
 
 returns-2 : tie.Need-returns-2
 unfolding wrote
 returns-2 c =
     let a = c .before .before .before .args in
-    rw (rule-broken (columnTold (a .buffer .now) (a .c)) (valueTold (a .buffer .now) (a .v)) (sym (c .before .keeps-rule .ensures (a .buffer .now)) ∙ c .if1 .left))
+    rw
+    (rule-broken (columnTold (a .buffer .now) (a .c)) (valueTold (a .buffer .now) (a .v))
+    (sym (c .before .keeps-rule .ensures (a .buffer .now)) ∙ c .if1 .left))
 
 pub value-size-spec : {M : Type 1} → statement M
 value-size-spec =

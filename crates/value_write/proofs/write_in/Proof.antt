@@ -17,16 +17,30 @@ enum-known-needed : tie.Need-enum-known-needed
 enum-known-needed c = search needs
 
 returns : tie.Need-returns
-returns c = sized-short (writeFamily (c .before .before .before .before .before .before .before .args .declared) (familyTold (c .before .before .before .before .before .before .before .args .f)) (valueTold (c .before .before .before .before .before .before .before .args .buffer .now) (c .before .before .before .before .before .before .before .args .v))) (c .before .before .before .before .before .before .before .args .out .now) _ (sym (ap wroteTold (c .before .before .needed .given .1)) ∙ c .before .before .before .before .in-family .ensures) (c .if1 .taken)
+returns c =
+    let after-needed = c .before .before in
+    let after-in-family = after-needed .before .before in
+    let start = after-in-family .before .before .before in
+    sized-short (writeFamily (start .args .declared) (familyTold (start .args .f)) (valueTold (start .args .buffer .now) (start .args .v)))
+    (start .args .out .now) _ (sym (ap wroteTold (after-needed .needed .given .1)) ∙ after-in-family .in-family .ensures) (c .if1 .taken)
 
 slice-relend-prefix-fill : tie.Need-slice-relend-prefix-fill
 slice-relend-prefix-fill c = search needs
 
 slice-aggregate-fill : tie.Need-slice-aggregate-fill
-slice-aggregate-fill c = sym (length-take-le _ (c .before .before .before .before .before .before .before .before .args .out .now) (c .before .if1 .left))
+slice-aggregate-fill c =
+    let in-if1 = c .before in
+    let start = in-if1 .before .before .before .before .before .before .before in
+    sym (length-take-le _ (start .args .out .now) (in-if1 .if1 .left))
 
 fill-requires : tie.Need-fill-requires
-fill-requires c κs = rw (length-take-le _ (c .before .before .before .before .before .before .before .before .args .out .now) (c .before .if1 .left)) (sym (ap wroteTold (c .before .before .before .needed .given .1)) ∙ c .before .before .before .before .before .in-family .ensures)
+fill-requires c κs =
+    let in-if1 = c .before in
+    let after-needed = in-if1 .before .before in
+    let after-in-family = after-needed .before .before in
+    let start = after-in-family .before .before .before in
+    rw (length-take-le _ (start .args .out .now) (in-if1 .if1 .left))
+    (sym (ap wroteTold (after-needed .needed .given .1)) ∙ after-in-family .in-family .ensures)
 
 enum-known-needed-2 : tie.Need-enum-known-needed-2
 enum-known-needed-2 c = search needs
@@ -35,10 +49,23 @@ same-length : tie.Need-same-length
 same-length c = search needs
 
 returns-2 : tie.Need-returns-2
-returns-2 c = room-filled (writeFamily (c .before .before .before .before .before .before .before .before .before .before .before .args .declared) (familyTold (c .before .before .before .before .before .before .before .before .before .before .before .args .f)) (valueTold (c .before .before .before .before .before .before .before .before .before .before .before .args .buffer .now) (c .before .before .before .before .before .before .before .before .before .before .before .args .v))) (c .before .before .before .before .before .before .before .before .before .before .before .args .out .now) _ _ (sym (ap wroteTold (c .before .before .before .before .before .before .needed .given .1)) ∙ c .before .before .before .before .before .before .before .before .in-family .ensures) (c .before .before .before .before .if1 .left) (c .before .before .fill .ensures)
+returns-2 c =
+    let after-fill = c .before .before in
+    let in-if1 = after-fill .before .before in
+    let after-needed = in-if1 .before .before in
+    let after-in-family = after-needed .before .before in
+    let start = after-in-family .before .before .before in
+    room-filled (writeFamily (start .args .declared) (familyTold (start .args .f)) (valueTold (start .args .buffer .now) (start .args .v)))
+    (start .args .out .now) _ _ (sym (ap wroteTold (after-needed .needed .given .1)) ∙ after-in-family .in-family .ensures) (in-if1 .if1 .left)
+    (after-fill .fill .ensures)
 
 returns-3 : tie.Need-returns-3
-returns-3 c = refused-before (writeFamily (c .before .before .before .before .before .before .args .declared) (familyTold (c .before .before .before .before .before .before .args .f)) (valueTold (c .before .before .before .before .before .before .args .buffer .now) (c .before .before .before .before .before .before .args .v))) (c .before .before .before .before .before .before .args .out .now) _ (sym (ap wroteTold (c .before .needed2 .given .1)) ∙ c .before .before .before .in-family .ensures)
+returns-3 c =
+    let after-needed2 = c .before in
+    let after-in-family = after-needed2 .before .before in
+    let start = after-in-family .before .before .before in
+    refused-before (writeFamily (start .args .declared) (familyTold (start .args .f)) (valueTold (start .args .buffer .now) (start .args .v)))
+    (start .args .out .now) _ (sym (ap wroteTold (after-needed2 .needed2 .given .1)) ∙ after-in-family .in-family .ensures)
 
 pub write-in-spec : {M : Type 1} → statement M
 write-in-spec =

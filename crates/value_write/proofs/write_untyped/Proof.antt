@@ -17,16 +17,30 @@ enum-known-needed : tie.Need-enum-known-needed
 enum-known-needed c = search needs
 
 returns : tie.Need-returns
-returns c = sized-short (writeUntyped (valueTold (c .before .before .before .before .before .before .before .args .buffer .now) (c .before .before .before .before .before .before .before .args .v))) (c .before .before .before .before .before .before .before .args .out .now) _ (sym (ap wroteTold (c .before .before .needed .given .1)) ∙ c .before .before .before .before .untyped-size .ensures) (c .if1 .taken)
+returns c =
+    let after-needed = c .before .before in
+    let after-untyped-size = after-needed .before .before in
+    let start = after-untyped-size .before .before .before in
+    sized-short (writeUntyped (valueTold (start .args .buffer .now) (start .args .v))) (start .args .out .now) _
+    (sym (ap wroteTold (after-needed .needed .given .1)) ∙ after-untyped-size .untyped-size .ensures) (c .if1 .taken)
 
 slice-relend-prefix-fill-untyped : tie.Need-slice-relend-prefix-fill-untyped
 slice-relend-prefix-fill-untyped c = search needs
 
 slice-aggregate-fill-untyped : tie.Need-slice-aggregate-fill-untyped
-slice-aggregate-fill-untyped c = sym (length-take-le _ (c .before .before .before .before .before .before .before .before .args .out .now) (c .before .if1 .left))
+slice-aggregate-fill-untyped c =
+    let in-if1 = c .before in
+    let start = in-if1 .before .before .before .before .before .before .before in
+    sym (length-take-le _ (start .args .out .now) (in-if1 .if1 .left))
 
 fill-untyped-requires : tie.Need-fill-untyped-requires
-fill-untyped-requires c κs = rw (length-take-le _ (c .before .before .before .before .before .before .before .before .args .out .now) (c .before .if1 .left)) (sym (ap wroteTold (c .before .before .before .needed .given .1)) ∙ c .before .before .before .before .before .untyped-size .ensures)
+fill-untyped-requires c κs =
+    let in-if1 = c .before in
+    let after-needed = in-if1 .before .before in
+    let after-untyped-size = after-needed .before .before in
+    let start = after-untyped-size .before .before .before in
+    rw (length-take-le _ (start .args .out .now) (in-if1 .if1 .left))
+    (sym (ap wroteTold (after-needed .needed .given .1)) ∙ after-untyped-size .untyped-size .ensures)
 
 enum-known-needed-2 : tie.Need-enum-known-needed-2
 enum-known-needed-2 c = search needs
@@ -35,10 +49,23 @@ same-length : tie.Need-same-length
 same-length c = search needs
 
 returns-2 : tie.Need-returns-2
-returns-2 c = room-filled (writeUntyped (valueTold (c .before .before .before .before .before .before .before .before .before .before .before .args .buffer .now) (c .before .before .before .before .before .before .before .before .before .before .before .args .v))) (c .before .before .before .before .before .before .before .before .before .before .before .args .out .now) _ _ (sym (ap wroteTold (c .before .before .before .before .before .before .needed .given .1)) ∙ c .before .before .before .before .before .before .before .before .untyped-size .ensures) (c .before .before .before .before .if1 .left) (c .before .before .fill-untyped .ensures)
+returns-2 c =
+    let after-fill-untyped = c .before .before in
+    let in-if1 = after-fill-untyped .before .before in
+    let after-needed = in-if1 .before .before in
+    let after-untyped-size = after-needed .before .before in
+    let start = after-untyped-size .before .before .before in
+    room-filled (writeUntyped (valueTold (start .args .buffer .now) (start .args .v))) (start .args .out .now) _ _
+    (sym (ap wroteTold (after-needed .needed .given .1)) ∙ after-untyped-size .untyped-size .ensures) (in-if1 .if1 .left)
+    (after-fill-untyped .fill-untyped .ensures)
 
 returns-3 : tie.Need-returns-3
-returns-3 c = refused-before (writeUntyped (valueTold (c .before .before .before .before .before .before .args .buffer .now) (c .before .before .before .before .before .before .args .v))) (c .before .before .before .before .before .before .args .out .now) _ (sym (ap wroteTold (c .before .needed2 .given .1)) ∙ c .before .before .before .untyped-size .ensures)
+returns-3 c =
+    let after-needed2 = c .before in
+    let after-untyped-size = after-needed2 .before .before in
+    let start = after-untyped-size .before .before .before in
+    refused-before (writeUntyped (valueTold (start .args .buffer .now) (start .args .v))) (start .args .out .now) _
+    (sym (ap wroteTold (after-needed2 .needed2 .given .1)) ∙ after-untyped-size .untyped-size .ensures)
 
 pub write-untyped-spec : {M : Type 1} → statement M
 write-untyped-spec =

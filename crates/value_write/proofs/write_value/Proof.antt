@@ -21,8 +21,12 @@ family-of-requires c κs = search needs
 
 cast-write-in : tie.Need-cast-write-in
 cast-write-in c =
-    let a = c .before .before .before .before .before .before .args in
-    record { fits = omega (arith, length-fits (columnTold (a .buffer .now) (a .c)) (sym (c .before .before .before .keeps-rule .ensures (a .buffer .now)) ∙ c .before .before .if1 .taken)) }
+    let in-if1 = c .before .before in
+    let after-keeps-rule = in-if1 .before in
+    let start = after-keeps-rule .before .before .before in
+    let a = start .args in
+    record
+    { fits = omega (arith, length-fits (columnTold (a .buffer .now) (a .c)) (sym (after-keeps-rule .keeps-rule .ensures (a .buffer .now)) ∙ in-if1 .if1 .taken)) }
 
 write-in-requires : tie.Need-write-in-requires
 write-in-requires c κs = search needs
@@ -32,9 +36,15 @@ same-length c = search needs
 
 returns : tie.Need-returns
 returns c =
-    let a = c .before .before .before .before .before .before .before .before .before .before .args in
-    let k = sym (c .before .before .before .before .before .before .before .keeps-rule .ensures (a .buffer .now)) ∙ c .before .before .before .before .before .before .if1 .taken in
-    rw (rule-kept (columnTold (a .buffer .now) (a .c)) (valueTold (a .buffer .now) (a .v)) k, ← c .before .before .before .before .before .family-of .ensures) (c .before .before .write-in .ensures)
+    let after-write-in = c .before .before in
+    let after-family-of = after-write-in .before .before .before in
+    let in-if1 = after-family-of .before in
+    let after-keeps-rule = in-if1 .before in
+    let start = after-keeps-rule .before .before .before in
+    let a = start .args in
+    let k = sym (after-keeps-rule .keeps-rule .ensures (a .buffer .now)) ∙ in-if1 .if1 .taken in
+    rw (rule-kept (columnTold (a .buffer .now) (a .c)) (valueTold (a .buffer .now) (a .v)) k, ← after-family-of .family-of .ensures)
+    (after-write-in .write-in .ensures)
 
 refused : (c : Column) (g : Given) → keepsRule c ≡ false → refuses rule ≡ wrote (writeValue c g)
 unfolding wrote

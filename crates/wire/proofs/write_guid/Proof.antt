@@ -24,9 +24,11 @@ same-length c = search needs
 returns-2 : tie.Need-returns-2
 unfolding writeGuid
 returns-2 c =
-    let a = c .before .before .before .before .before .before .args in
+    let after-put-guid = c .before .before in
+    let start = after-put-guid .before .before .before .before in
+    let a = start .args in
     let h = has-room (guidWire (a .g)) (a .out .now) 16 (length-wire (a .g)) (omega (arith, length-wire (a .g))) in
-    (h .0, c .before .before .put-guid .ensures ∙ (sets-front (a .out .now) (guidWire (a .g)) (omega (arith, length-wire (a .g))) ∙ h .1))
+    (h .0, after-put-guid .put-guid .ensures ∙ (sets-front (a .out .now) (guidWire (a .g)) (omega (arith, length-wire (a .g))) ∙ h .1))
 
 pub write-guid-spec : {M : Type 1} → statement M
 write-guid-spec = tie.close (tie.spec returns put-guid-requires same-length returns-2)

@@ -28,9 +28,14 @@ enum-known-t-2 c = search needs
 
 returns-2 : tie.Need-returns-2
 returns-2 c =
-    let d = sym (c .before .before .before .before .before .before .fixed-of .ensures) ∙ ap typeReadTold (c .before .before .before .before .enum-told .given .1) in
-    let e = sym (c .before .before .before .byte-len-of .ensures) ∙ ap typeReadTold (c .before .t2 .given .1) in
-    sym (in-second (c .before .before .before .before .before .before .before .args .b) (typeTold (c .before .t2 .given .0 .0)) d e)
+    let after-t2 = c .before in
+    let after-byte-len-of = after-t2 .before .before in
+    let after-enum-told = after-byte-len-of .before in
+    let after-fixed-of = after-enum-told .before .before in
+    let start = after-fixed-of .before in
+    let d = sym (after-fixed-of .fixed-of .ensures) ∙ ap typeReadTold (after-enum-told .enum-told .given .1) in
+    let e = sym (after-byte-len-of .byte-len-of .ensures) ∙ ap typeReadTold (after-t2 .t2 .given .1) in
+    sym (in-second (start .args .b) (typeTold (after-t2 .t2 .given .0 .0)) d e)
 
 enum-told-2 : tie.Need-enum-told-2
 enum-told-2 c = search needs
@@ -40,9 +45,14 @@ other-of-requires c κs = search needs
 
 returns-3 : tie.Need-returns-3
 returns-3 c =
-    let d = sym (c .before .before .before .before .before .before .fixed-of .ensures) ∙ ap typeReadTold (c .before .before .before .before .enum-told .given .1) in
-    let e = sym (c .before .before .before .byte-len-of .ensures) ∙ ap typeReadTold (c .before .enum-told2 .given .1) in
-    c .other-of .ensures ∙ sym (in-third (c .before .before .before .before .before .before .before .args .b) d e)
+    let after-enum-told2 = c .before in
+    let after-byte-len-of = after-enum-told2 .before .before in
+    let after-enum-told = after-byte-len-of .before in
+    let after-fixed-of = after-enum-told .before .before in
+    let start = after-fixed-of .before in
+    let d = sym (after-fixed-of .fixed-of .ensures) ∙ ap typeReadTold (after-enum-told .enum-told .given .1) in
+    let e = sym (after-byte-len-of .byte-len-of .ensures) ∙ ap typeReadTold (after-enum-told2 .enum-told2 .given .1) in
+    c .other-of .ensures ∙ sym (in-third (start .args .b) d e)
 
 pub type-of-spec : {M : Type 1} → statement M
 type-of-spec =

@@ -16,7 +16,10 @@ array-share-prefix-text : tie.Need-array-share-prefix-text
 array-share-prefix-text c = search needs
 
 slice-aggregate-write-all : tie.Need-slice-aggregate-write-all
-slice-aggregate-write-all c = sym (length-take-le (c .before .before .spell .result) (c .before .before .spell .last .1 .0) (omega (arith, c .before .before .spell .ensures, c .before .before .spell .kept)))
+slice-aggregate-write-all c =
+    sym
+    (length-take-le (c .before .before .spell .result) (c .before .before .spell .last .1 .0)
+    (omega (arith, c .before .before .spell .ensures, c .before .before .spell .kept)))
 
 write-all-requires : tie.Need-write-all-requires
 write-all-requires c κs = search needs

@@ -45,13 +45,19 @@ add-t14 c = search needs
 
 returns-2 : tie.Need-returns-2
 returns-2 c =
-    let a = c .before .before .before .before .before .args in
-    pair-is (a .a) (drop (a .at) (now (a .s))) _ (c .before .before .unit-at .ensures .0) (omega (arith, length-drop (a .at) (now (a .s)))) (is-low c)
+    let after-unit-at = c .before .before in
+    let start = after-unit-at .before .before .before in
+    let a = start .args in
+    pair-is (a .a) (drop (a .at) (now (a .s))) _ (after-unit-at .unit-at .ensures .0) (omega (arith, length-drop (a .at) (now (a .s)))) (is-low c)
 
 returns-3 : tie.Need-returns-3
 returns-3 c =
-    let a = c .before .before .before .before .before .args in
-    pair-not (a .a) (drop (a .at) (now (a .s))) _ (c .before .before .unit-at .ensures .0) (omega (arith, length-drop (a .at) (now (a .s)))) (sym (c .before .within .ensures) ∙ c .if2 .left)
+    let after-within = c .before in
+    let after-unit-at = after-within .before in
+    let start = after-unit-at .before .before .before in
+    let a = start .args in
+    pair-not (a .a) (drop (a .at) (now (a .s))) _ (after-unit-at .unit-at .ensures .0) (omega (arith, length-drop (a .at) (now (a .s))))
+    (sym (after-within .within .ensures) ∙ c .if2 .left)
 
 pub pair-at-spec : {M : Type 1} → statement M
 pair-at-spec =

@@ -16,15 +16,21 @@ use Rattle.text_char.proofs.inner.rest8_at.Tie as tie
 second-stands : (c : tie.Else1) → let a = c .before .before .before .args in standsIn (a .row .low) (a .row .high) (drop (a .at) (now (a .s))) ≡ true
 second-stands c = sym (c .before .stands .ensures) ∙ not-false _ (c .if1 .left)
 
-third-stands : (c : tie.Else3) → let a = c .before .before .before .before .before .before .before .before .before .args in standsIn 0x80 0xBF (drop (a .at + 1) (now (a .s))) ≡ true
+third-stands : (c : tie.Else3) → let a =
+    c .before .before .before .before .before .before .before .before .before .args in standsIn 0x80 0xBF (drop (a .at + 1) (now (a .s))) ≡ true
 third-stands c = sym (c .before .stands2 .ensures) ∙ not-false _ (c .if3 .left)
 
-fourth-stands : (c : tie.Else5) → let a = c .before .before .before .before .before .before .before .before .before .before .before .before .before .before .args in standsIn 0x80 0xBF (drop (a .at + 2) (now (a .s))) ≡ true
+fourth-stands : (c : tie.Else5) → let a =
+    c .before .before .before .before .before .before .before .before .before .before .before .before .before .before .args in standsIn 0x80 0xBF
+    (drop (a .at + 2) (now (a .s))) ≡ true
 fourth-stands c = sym (c .before .stands3 .ensures) ∙ not-false _ (c .if5 .left)
 
 -- neither none nor one: two follow the second
 last-two : (c : tie.Else4) → c .before .before .before .before .before .before .before .before .before .before .before .before .args .row .more ≡ 2
-last-two c = omega (arith, c .if4 .left, c .before .before .before .before .before .if2 .left, c .before .before .before .before .before .before .before .before .before .before .before .before .pre)
+last-two c =
+    let in-if2 = c .before .before .before .before .before in
+    let start = in-if2 .before .before .before .before .before .before .before in
+    omega (arith, c .if4 .left, in-if2 .if2 .left, start .pre)
 
 stands-requires : tie.Need-stands-requires
 stands-requires c κs = search needs
@@ -50,37 +56,46 @@ add-two c = search needs
 
 returns-2 : tie.Need-returns-2
 returns-2 c =
-    let e = c .before .before .before .before in
-    let a = e .before .before .before .args in
-    rest-two (now (a .s)) (a .at) (a .a) _ (rowTold (a .row)) (c .before .before .six-at .ensures .0) (second-stands e) (c .if2 .taken)
+    let after-six-at = c .before .before in
+    let place-4 = after-six-at .before .before in
+    let start = place-4 .before .before .before in
+    let a = start .args in
+    rest-two (now (a .s)) (a .at) (a .a) _ (rowTold (a .row)) (after-six-at .six-at .ensures .0) (second-stands place-4) (c .if2 .taken)
 
 add-stands : tie.Need-add-stands
 add-stands c =
-    let e = c .before .before .before .before in
-    let a = e .before .before .before .args in
-    omega (arith, stands-true (now (a .s)) (a .at) (a .row .low) (a .row .high) (second-stands e), e .before .before .before .good)
+    let place-4 = c .before .before .before .before in
+    let start = place-4 .before .before .before in
+    let a = start .args in
+    omega (arith, stands-true (now (a .s)) (a .at) (a .row .low) (a .row .high) (second-stands place-4), start .good)
 
 stands-requires-2 : tie.Need-stands-requires-2
 stands-requires-2 c κs = search needs
 
 returns-3 : tie.Need-returns-3
 returns-3 c =
-    let e = c .before .before .before .before .before .before in
-    let a = e .before .before .before .args in
-    third-not (now (a .s)) (a .at) (a .a) _ (rowTold (a .row)) (c .before .before .before .before .six-at .ensures .0) (second-stands e)
-    (omega (arith, c .before .before .if2 .left)) (sym (c .before .stands2 .ensures) ∙ not-true _ (c .if3 .taken))
+    let after-stands2 = c .before in
+    let in-if2 = after-stands2 .before in
+    let after-six-at = in-if2 .before .before in
+    let place-6 = after-six-at .before .before in
+    let start = place-6 .before .before .before in
+    let a = start .args in
+    third-not (now (a .s)) (a .at) (a .a) _ (rowTold (a .row)) (after-six-at .six-at .ensures .0) (second-stands place-6)
+    (omega (arith, in-if2 .if2 .left)) (sym (after-stands2 .stands2 .ensures) ∙ not-true _ (c .if3 .taken))
 
 mul-three : tie.Need-mul-three
 mul-three c = search needs
 
 add-six-at : tie.Need-add-six-at
 add-six-at c =
-    let a = c .before .before .before .before .before .before .before .before .before .args in
-    omega (arith, stands-true (now (a .s)) (a .at + 1) 0x80 0xBF (third-stands c), c .before .before .before .before .before .before .before .before .before .good)
+    let start = c .before .before .before .before .before .before .before .before .before in
+    let a = start .args in
+    omega (arith, stands-true (now (a .s)) (a .at + 1) 0x80 0xBF (third-stands c), start .good)
 
 six-at-requires-2 : tie.Need-six-at-requires-2
 six-at-requires-2 c κs =
-    let a = c .before .before .before .before .before .before .before .before .before .args in
+    let start = c .before .before .before .before .before .before .before .before .before in
+    let a = start .args in
     stands-true (now (a .s)) (a .at + 1) 0x80 0xBF (third-stands c)
 
 add-three : tie.Need-add-three
@@ -88,40 +103,53 @@ add-three c = search needs
 
 returns-4 : tie.Need-returns-4
 returns-4 c =
-    let e = c .before .before .before in
-    let a = e .before .before .before .before .before .before .before .before .before .args in
-    rest-three (now (a .s)) (a .at) (a .a) _ (rowTold (a .row)) (e .before .before .before .before .six-at .ensures .0)
-    (second-stands (e .before .before .before .before .before .before)) _ (c .before .before .six-at2 .ensures .0) (third-stands e) (c .if4 .taken)
+    let after-six-at2 = c .before .before in
+    let place-3 = after-six-at2 .before in
+    let after-six-at = place-3 .before .before .before .before in
+    let after-before = after-six-at .before in
+    let place-9 = after-before .before in
+    let start = place-9 .before .before .before in
+    let a = start .args in
+    rest-three (now (a .s)) (a .at) (a .a) _ (rowTold (a .row)) (after-six-at .six-at .ensures .0)
+    (second-stands (after-before .before)) _ (after-six-at2 .six-at2 .ensures .0) (third-stands place-3) (c .if4 .taken)
 
 add-stands-2 : tie.Need-add-stands-2
 add-stands-2 c =
-    let e = c .before .before .before in
-    let a = e .before .before .before .before .before .before .before .before .before .args in
-    omega (arith, stands-true (now (a .s)) (a .at + 1) 0x80 0xBF (third-stands e), e .before .before .before .before .before .before .before .before .before .good)
+    let place-3 = c .before .before .before in
+    let start = place-3 .before .before .before .before .before .before .before .before .before in
+    let a = start .args in
+    omega (arith, stands-true (now (a .s)) (a .at + 1) 0x80 0xBF (third-stands place-3), start .good)
 
 stands-requires-3 : tie.Need-stands-requires-3
 stands-requires-3 c κs = search needs
 
 returns-5 : tie.Need-returns-5
 returns-5 c =
-    let f = c .before .before in
-    let e = f .before .before .before in
-    let a = e .before .before .before .before .before .before .before .before .before .args in
-    fourth-not (now (a .s)) (a .at) (a .a) _ (rowTold (a .row)) (e .before .before .before .before .six-at .ensures .0)
-    (second-stands (e .before .before .before .before .before .before)) _ (f .before .before .six-at2 .ensures .0) (third-stands e) (last-two f)
-    (sym (c .before .stands3 .ensures) ∙ not-true _ (c .if5 .taken))
+    let after-stands3 = c .before in
+    let place-2 = after-stands3 .before in
+    let after-six-at2 = place-2 .before .before in
+    let place-5 = after-six-at2 .before in
+    let after-six-at = place-5 .before .before .before .before in
+    let after-before = after-six-at .before in
+    let place-11 = after-before .before in
+    let start = place-11 .before .before .before in
+    let a = start .args in
+    fourth-not (now (a .s)) (a .at) (a .a) _ (rowTold (a .row)) (after-six-at .six-at .ensures .0)
+    (second-stands (after-before .before)) _ (after-six-at2 .six-at2 .ensures .0) (third-stands place-5) (last-two place-2)
+    (sym (after-stands3 .stands3 .ensures) ∙ not-true _ (c .if5 .taken))
 
 mul-t11 : tie.Need-mul-t11
 mul-t11 c = search needs
 
 add-six-at-2 : tie.Need-add-six-at-2
 add-six-at-2 c =
-    let z = c .before .before .before .before .before .before .before .before .before .before .before .before .before .before in
-    omega (arith, stands-true (now (z .args .s)) (z .args .at + 2) 0x80 0xBF (fourth-stands c), z .good)
+    let start = c .before .before .before .before .before .before .before .before .before .before .before .before .before .before in
+    omega (arith, stands-true (now (start .args .s)) (start .args .at + 2) 0x80 0xBF (fourth-stands c), start .good)
 
 six-at-requires-3 : tie.Need-six-at-requires-3
 six-at-requires-3 c κs =
-    let a = c .before .before .before .before .before .before .before .before .before .before .before .before .before .before .args in
+    let start = c .before .before .before .before .before .before .before .before .before .before .before .before .before .before in
+    let a = start .args in
     stands-true (now (a .s)) (a .at + 2) 0x80 0xBF (fourth-stands c)
 
 add-t12 : tie.Need-add-t12
@@ -129,12 +157,18 @@ add-t12 c = search needs
 
 returns-6 : tie.Need-returns-6
 returns-6 c =
-    let f = c .before .before .before in
-    let e = f .before .before .before in
-    let a = e .before .before .before .before .before .before .before .before .before .args in
-    rest-four (now (a .s)) (a .at) (a .a) _ (rowTold (a .row)) (e .before .before .before .before .six-at .ensures .0)
-    (second-stands (e .before .before .before .before .before .before)) _ (f .before .before .six-at2 .ensures .0) (third-stands e) _ (c .six-at3 .ensures .0) (last-two f)
-    (fourth-stands (c .before))
+    let place-1 = c .before in
+    let place-3 = place-1 .before .before in
+    let after-six-at2 = place-3 .before .before in
+    let place-6 = after-six-at2 .before in
+    let after-six-at = place-6 .before .before .before .before in
+    let after-before = after-six-at .before in
+    let place-12 = after-before .before in
+    let start = place-12 .before .before .before in
+    let a = start .args in
+    rest-four (now (a .s)) (a .at) (a .a) _ (rowTold (a .row)) (after-six-at .six-at .ensures .0)
+    (second-stands (after-before .before)) _ (after-six-at2 .six-at2 .ensures .0) (third-stands place-6) _ (c .six-at3 .ensures .0) (last-two place-3)
+    (fourth-stands (place-1))
 
 pub rest8-at-spec : {M : Type 1} → statement M
 rest8-at-spec =

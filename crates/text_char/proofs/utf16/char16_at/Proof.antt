@@ -43,23 +43,37 @@ pair-at-requires c κs =
 
 returns-3 : tie.Need-returns-3
 returns-3 c =
-    let a = c .before .before .before .before .before .before .before .args in
-    c .pair-at .ensures ∙ first-high (now (a .s)) (a .at) _ (c .before .before .before .unit-at .ensures .0) (omega (arith, length-drop (a .at) (now (a .s)))) (is-high (c .before))
+    let place-1 = c .before in
+    let after-unit-at = place-1 .before .before in
+    let start = after-unit-at .before .before .before .before in
+    let a = start .args in
+    c .pair-at .ensures ∙ first-high (now (a .s)) (a .at) _ (after-unit-at .unit-at .ensures .0) (omega (arith, length-drop (a .at) (now (a .s))))
+    (is-high (place-1))
 
 within-requires-2 : tie.Need-within-requires-2
 within-requires-2 c κs = search needs
 
 returns-4 : tie.Need-returns-4
 returns-4 c =
-    let a = c .before .before .before .before .before .before .before .before .args in
-    first-low (now (a .s)) (a .at) _ (c .before .before .before .before .unit-at .ensures .0) (omega (arith, length-drop (a .at) (now (a .s))))
-    (sym (c .before .before .before .within .ensures) ∙ c .before .before .if3 .left) (sym (c .before .within2 .ensures) ∙ c .if4 .taken)
+    let after-within2 = c .before in
+    let in-if3 = after-within2 .before in
+    let after-within = in-if3 .before in
+    let after-unit-at = after-within .before in
+    let start = after-unit-at .before .before .before .before in
+    let a = start .args in
+    first-low (now (a .s)) (a .at) _ (after-unit-at .unit-at .ensures .0) (omega (arith, length-drop (a .at) (now (a .s))))
+    (sym (after-within .within .ensures) ∙ in-if3 .if3 .left) (sym (after-within2 .within2 .ensures) ∙ c .if4 .taken)
 
 returns-5 : tie.Need-returns-5
 returns-5 c =
-    let a = c .before .before .before .before .before .before .before .before .args in
-    first-one (now (a .s)) (a .at) _ (c .before .before .before .before .unit-at .ensures .0) (omega (arith, length-drop (a .at) (now (a .s))))
-    (sym (c .before .before .before .within .ensures) ∙ c .before .before .if3 .left) (sym (c .before .within2 .ensures) ∙ c .if4 .left)
+    let after-within2 = c .before in
+    let in-if3 = after-within2 .before in
+    let after-within = in-if3 .before in
+    let after-unit-at = after-within .before in
+    let start = after-unit-at .before .before .before .before in
+    let a = start .args in
+    first-one (now (a .s)) (a .at) _ (after-unit-at .unit-at .ensures .0) (omega (arith, length-drop (a .at) (now (a .s))))
+    (sym (after-within .within .ensures) ∙ in-if3 .if3 .left) (sym (after-within2 .within2 .ensures) ∙ c .if4 .left)
 
 pub char16-at-spec : {M : Type 1} → statement M
 char16-at-spec =

@@ -12,7 +12,8 @@ use Rattle.text_char.proofs.utf8.char8_at.Statement.{statement}
 use Rattle.text_char.proofs.utf8.char8_at.Tie as tie
 
 -- the row that was found
-found : (c : tie.After-row) → let a = c .before .before .before .before .before .before .before .args in leadIn wellFormed (getD (now (a .s)) (a .at) 0) ≡ chosen (rowTold (c .row .given .0 .0))
+found : (c : tie.After-row) → let a =
+    c .before .before .before .before .before .before .before .args in leadIn wellFormed (getD (now (a .s)) (a .at) 0) ≡ chosen (rowTold (c .row .given .0 .0))
 found c = sym (c .before .before .row-of .ensures) ∙ ap leadTold (c .row .given .1)
 
 returns : tie.Need-returns
@@ -40,24 +41,31 @@ add-rest8-at c = search needs
 
 rest8-at-requires : tie.Need-rest8-at-requires
 rest8-at-requires c κs =
-    let a = c .before .before .before .before .before .before .before .before .args in
-    led (getD (now (a .s)) (a .at) 0) (rowTold (c .before .row .given .0 .0)) (found (c .before))
+    let after-row = c .before in
+    let start = after-row .before .before .before .before .before .before .before in
+    let a = start .args in
+    led (getD (now (a .s)) (a .at) 0) (rowTold (after-row .row .given .0 .0)) (found (after-row))
 
 enum-told : tie.Need-enum-told
 enum-told c = search needs
 
 returns-3 : tie.Need-returns-3
 returns-3 c =
-    let w = c .before .before in
-    let a = w .before .before .before .before .before .before .before .args in
-    let e = w .before .before .before in
-    c .rest8-at .ensures ∙ char8-row (now (a .s)) (a .at) (e .before .before .if1 .left) (rowTold (w .row .given .0 .0)) (e .if2 .left) (found w)
+    let after-row = c .before .before in
+    let in-if2 = after-row .before .before .before in
+    let in-if1 = in-if2 .before .before in
+    let start = in-if1 .before .before in
+    let a = start .args in
+    c .rest8-at .ensures ∙ char8-row (now (a .s)) (a .at) (in-if1 .if1 .left) (rowTold (after-row .row .given .0 .0)) (in-if2 .if2 .left) (found after-row)
 
 returns-4 : tie.Need-returns-4
 returns-4 c =
-    let o = c .before .before in
-    let a = o .before .before .before .before .before .args in
-    char8-none (now (a .s)) (a .at) (o .before .before .before .if1 .left) (o .before .if2 .left) (sym (o .row-of .ensures) ∙ ap leadTold (c .enum-told .given .1))
+    let after-row-of = c .before .before in
+    let in-if2 = after-row-of .before in
+    let in-if1 = in-if2 .before .before in
+    let start = in-if1 .before .before in
+    let a = start .args in
+    char8-none (now (a .s)) (a .at) (in-if1 .if1 .left) (in-if2 .if2 .left) (sym (after-row-of .row-of .ensures) ∙ ap leadTold (c .enum-told .given .1))
 
 pub char8-at-spec : {M : Type 1} → statement M
 char8-at-spec =

@@ -30,10 +30,12 @@ same-length c = search needs
 
 returns : tie.Need-returns
 returns c =
-    let t = c .before .before .before .before in
-    let a = t .before .before .args in
-    let u = utf16-one (a .c) (t .if1 .taken) in
-    (sym (ap length u), c .before .before .put-unit .ensures ∙ stored (a .out .now) (lowBytes 2 (a .c)) (utf16 (a .c)) (a .o) u (t .before .before .pre))
+    let after-put-unit = c .before .before in
+    let in-if1 = after-put-unit .before .before in
+    let start = in-if1 .before .before in
+    let a = start .args in
+    let u = utf16-one (a .c) (in-if1 .if1 .taken) in
+    (sym (ap length u), after-put-unit .put-unit .ensures ∙ stored (a .out .now) (lowBytes 2 (a .c)) (utf16 (a .c)) (a .o) u (start .pre))
 
 add-put-unit : tie.Need-add-put-unit
 add-put-unit c = search needs
@@ -49,25 +51,36 @@ add-put-unit-3 c = search needs
 
 put-unit-requires-3 : tie.Need-put-unit-requires-3
 put-unit-requires-3 c κs =
-    let e = c .before .before .before .before .before in
-    let a = e .before .before .args in
-    omega (arith, room-two e, ap length (c .before .before .before .put-unit2 .ensures), length-sets (now (a .out)) (a .o) (lowBytes 2 (0xD800 + (a .c - 0x10000) / 1024)))
+    let after-put-unit2 = c .before .before .before in
+    let place-5 = after-put-unit2 .before .before in
+    let start = place-5 .before .before in
+    let a = start .args in
+    omega (
+      arith,
+      room-two place-5,
+      ap length (after-put-unit2 .put-unit2 .ensures),
+      length-sets (now (a .out)) (a .o)
+          (lowBytes 2 (0xD800 + (a .c - 0x10000) / 1024)),
+    )
 
 same-length-2 : tie.Need-same-length-2
 same-length-2 c = search needs
 
 returns-2 : tie.Need-returns-2
 returns-2 c =
-    let e = c .before .before .before .before .before .before .before .before in
-    let a = e .before .before .args in
-    let u = utf16-two (a .c) (e .if1 .left) in
+    let after-put-unit3 = c .before .before in
+    let after-put-unit2 = after-put-unit3 .before .before .before .before in
+    let in-if1 = after-put-unit2 .before .before in
+    let start = in-if1 .before .before in
+    let a = start .args in
+    let u = utf16-two (a .c) (in-if1 .if1 .left) in
     let high = lowBytes 2 (0xD800 + (a .c - 0x10000) / 1024) in
     let low = lowBytes 2 (0xDC00 + (a .c - 0x10000) % 1024) in (
       sym (ap length u),
-      c .before .before .put-unit3 .ensures
-          ∙ (ap (λ (l : List ℕ). sets l (a .o + 2) low) (c .before .before .before .before .before .before .put-unit2 .ensures)
+      after-put-unit3 .put-unit3 .ensures
+          ∙ (ap (λ (l : List ℕ). sets l (a .o + 2) low) (after-put-unit2 .put-unit2 .ensures)
           ∙ (sets-more (a .out .now) (a .o) high low
-          ∙ stored (a .out .now) (high ++ low) (utf16 (a .c)) (a .o) u (e .before .before .pre))),
+          ∙ stored (a .out .now) (high ++ low) (utf16 (a .c)) (a .o) u (start .pre))),
     )
 
 pub put-char16-spec : {M : Type 1} → statement M

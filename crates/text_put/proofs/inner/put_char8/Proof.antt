@@ -36,10 +36,10 @@ same-length c = search needs
 
 returns : tie.Need-returns
 returns c =
-    let z = c .before in
-    let a = z .args in
+    let start = c .before in
+    let a = start .args in
     let u = utf8-one (a .c) (c .if1 .taken) in
-    (sym (ap length u), stored (a .out .now) (a .c ∷ []) (utf8 (a .c)) (a .o) u (z .pre .1))
+    (sym (ap length u), stored (a .out .now) (a .c ∷ []) (utf8 (a .c)) (a .o) u (start .pre .1))
 
 add-out : tie.Need-add-out
 add-out c = search needs
@@ -67,12 +67,13 @@ same-length-2 c = search needs
 
 returns-2 : tie.Need-returns-2
 returns-2 c =
-    let z = c .before .before in
-    let a = z .args in
-    let u = utf8-two (a .c) (c .before .if1 .left) (c .if2 .taken) in (
+    let in-if1 = c .before in
+    let start = in-if1 .before in
+    let a = start .args in
+    let u = utf8-two (a .c) (in-if1 .if1 .left) (c .if2 .taken) in (
       sym (ap length u),
       sets-two (a .out .now) (a .o) (0xC0 + a .c / 64) (0x80 + a .c % 64)
-          ∙ stored (a .out .now) ((0xC0 + a .c / 64) ∷ (0x80 + a .c % 64) ∷ []) (utf8 (a .c)) (a .o) u (z .pre .1),
+          ∙ stored (a .out .now) ((0xC0 + a .c / 64) ∷ (0x80 + a .c % 64) ∷ []) (utf8 (a .c)) (a .o) u (start .pre .1),
     )
 
 add-out-4 : tie.Need-add-out-4
@@ -113,12 +114,13 @@ same-length-3 c = search needs
 
 returns-3 : tie.Need-returns-3
 returns-3 c =
-    let z = c .before .before .before in
-    let a = z .args in
-    let u = utf8-three (a .c) (c .before .if2 .left) (c .if3 .taken) in (
+    let in-if2 = c .before in
+    let start = in-if2 .before .before in
+    let a = start .args in
+    let u = utf8-three (a .c) (in-if2 .if2 .left) (c .if3 .taken) in (
       sym (ap length u),
       sets-three (a .out .now) (a .o) (0xE0 + a .c / 4096) (0x80 + a .c / 64 % 64) (0x80 + a .c % 64)
-          ∙ stored (a .out .now) ((0xE0 + a .c / 4096) ∷ (0x80 + a .c / 64 % 64) ∷ (0x80 + a .c % 64) ∷ []) (utf8 (a .c)) (a .o) u (z .pre .1),
+          ∙ stored (a .out .now) ((0xE0 + a .c / 4096) ∷ (0x80 + a .c / 64 % 64) ∷ (0x80 + a .c % 64) ∷ []) (utf8 (a .c)) (a .o) u (start .pre .1),
     )
 
 add-out-9 : tie.Need-add-out-9
@@ -171,12 +173,13 @@ same-length-4 c = search needs
 
 returns-4 : tie.Need-returns-4
 returns-4 c =
-    let z = c .before .before .before in
-    let a = z .args in
+    let start = c .before .before .before in
+    let a = start .args in
     let u = utf8-four (a .c) (c .if3 .left) in (
       sym (ap length u),
       sets-four (a .out .now) (a .o) (0xF0 + a .c / 262144) (0x80 + a .c / 4096 % 64) (0x80 + a .c / 64 % 64) (0x80 + a .c % 64)
-          ∙ stored (a .out .now) ((0xF0 + a .c / 262144) ∷ (0x80 + a .c / 4096 % 64) ∷ (0x80 + a .c / 64 % 64) ∷ (0x80 + a .c % 64) ∷ []) (utf8 (a .c)) (a .o) u (z .pre .1),
+          ∙ stored (a .out .now) ((0xF0 + a .c / 262144) ∷ (0x80 + a .c / 4096 % 64) ∷ (0x80 + a .c / 64 % 64) ∷ (0x80 + a .c % 64) ∷ [])
+          (utf8 (a .c)) (a .o) u (start .pre .1),
     )
 
 pub put-char8-spec : {M : Type 1} → statement M

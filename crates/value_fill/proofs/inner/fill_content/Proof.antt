@@ -12,25 +12,42 @@ enum-told : tie.Need-enum-told
 enum-told c = search needs
 
 copy-requires : tie.Need-copy-requires
-copy-requires c κs = omega (arith, count-is (gives (c .before .before .before .before .before .args .s .now)) _ (c .before .before .before .before .before .args .s .now) (rw (c .before .enum-told .given .1) at (c .before .before .before .before .before .pre)) refl)
+copy-requires c κs =
+    let after-enum-told = c .before in
+    let start = after-enum-told .before .before .before .before in
+    omega (arith, count-is (gives (start .args .s .now)) _ (start .args .s .now) (rw (after-enum-told .enum-told .given .1) at (start .pre)) refl)
 
 enum-told-2 : tie.Need-enum-told-2
 enum-told-2 c = search needs
 
 put-utf16-requires : tie.Need-put-utf16-requires
-put-utf16-requires c κs = fits-all (textIn (c .before .before .before .before .before .args .s .now)) _ (rw (c .before .enum-told2 .given .1) at (c .before .before .before .before .before .pre))
+put-utf16-requires c κs =
+    let after-enum-told2 = c .before in
+    let start = after-enum-told2 .before .before .before .before in
+    fits-all (textIn (start .args .s .now)) _ (rw (after-enum-told2 .enum-told2 .given .1) at (start .pre))
 
 same-length : tie.Need-same-length
 same-length c = search needs
 
 returns : tie.Need-returns
-returns c = rw (c .before .before .before .before .enum-told .given .1) (copied (c .before .before .before .before .before .before .before .before .args .s .now) (c .before .before .before .before .before .before .before .before .args .out .now) _ (rw (c .before .before .before .before .enum-told .given .1) at (c .before .before .before .before .before .before .before .before .pre)) (c .before .before .copy .ensures))
+returns c =
+    let after-copy = c .before .before in
+    let after-enum-told = after-copy .before .before in
+    let start = after-enum-told .before .before .before .before in
+    rw (after-enum-told .enum-told .given .1)
+    (copied (start .args .s .now) (start .args .out .now) _ (rw (after-enum-told .enum-told .given .1) at (start .pre)) (after-copy .copy .ensures))
 
 same-length-2 : tie.Need-same-length-2
 same-length-2 c = search needs
 
 returns-2 : tie.Need-returns-2
-returns-2 c = rw (c .before .before .before .before .enum-told2 .given .1) (leaves-none (textIn (c .before .before .before .before .before .before .before .before .args .s .now)) (c .before .before .before .before .before .before .before .before .args .out .now) _ (rw (c .before .before .before .before .enum-told2 .given .1) at (c .before .before .before .before .before .before .before .before .pre)) (c .before .before .put-utf16 .ensures))
+returns-2 c =
+    let after-put-utf16 = c .before .before in
+    let after-enum-told2 = after-put-utf16 .before .before in
+    let start = after-enum-told2 .before .before .before .before in
+    rw (after-enum-told2 .enum-told2 .given .1)
+    (leaves-none (textIn (start .args .s .now)) (start .args .out .now) _ (rw (after-enum-told2 .enum-told2 .given .1) at (start .pre))
+    (after-put-utf16 .put-utf16 .ensures))
 
 pub fill-content-spec : {M : Type 1} → statement M
 fill-content-spec =

@@ -22,43 +22,50 @@ returns c = rw (c .before .before .before .before .if1 .taken) (c .before .befor
 
 sub-n : tie.Need-sub-n
 sub-n c =
-    let s = c .before .before .before in
-    let a = encoded (contentKindTold (s .args .k)) (s .args .s .now) in
-    let p = rw (c .if1 .left) at (s .pre) in
+    let start = c .before .before .before in
+    let a = encoded (contentKindTold (start .args .k)) (start .args .s .now) in
+    let p = rw (c .if1 .left) at (start .pre) in
     short-room a _ p .0
 
 put-low-requires : tie.Need-put-low-requires
 put-low-requires c κs =
-    let s = c .before .before .before .before in
-    let a = encoded (contentKindTold (s .args .k)) (s .args .s .now) in
-    let p = rw (c .before .if1 .left) at (s .pre) in
+    let in-if1 = c .before in
+    let start = in-if1 .before .before .before in
+    let a = encoded (contentKindTold (start .args .k)) (start .args .s .now) in
+    let p = rw (in-if1 .if1 .left) at (start .pre) in
     short-room a _ p .0
 
 sub-fill-content : tie.Need-sub-fill-content
 sub-fill-content c =
-    let s = c .before .before .before .before .before .before .before in
-    let a = encoded (contentKindTold (s .args .k)) (s .args .s .now) in
-    let p = rw (c .before .before .before .before .if1 .left) at (s .pre) in
-    omega (arith, c .before .before .put-low .kept .0, short-room a _ p .0)
+    let after-put-low = c .before .before in
+    let in-if1 = after-put-low .before .before in
+    let start = in-if1 .before .before .before in
+    let a = encoded (contentKindTold (start .args .k)) (start .args .s .now) in
+    let p = rw (in-if1 .if1 .left) at (start .pre) in
+    omega (arith, after-put-low .put-low .kept .0, short-room a _ p .0)
 
 part-fill-content-start : tie.Need-part-fill-content-start
 part-fill-content-start c =
-    let s = c .before .before .before .before .before .before .before in
-    let a = encoded (contentKindTold (s .args .k)) (s .args .s .now) in
-    let p = rw (c .before .before .before .before .if1 .left) at (s .pre) in
-    omega (arith, c .before .before .put-low .kept .0, short-room a _ p .0)
+    let after-put-low = c .before .before in
+    let in-if1 = after-put-low .before .before in
+    let start = in-if1 .before .before .before in
+    let a = encoded (contentKindTold (start .args .k)) (start .args .s .now) in
+    let p = rw (in-if1 .if1 .left) at (start .pre) in
+    omega (arith, after-put-low .put-low .kept .0, short-room a _ p .0)
 
 part-fill-content-end : tie.Need-part-fill-content-end
 part-fill-content-end c = search needs
 
 fill-content-requires : tie.Need-fill-content-requires
 fill-content-requires c κs =
-    let s = c .before .before .before .before .before .before .before .before in
-    let a = encoded (contentKindTold (s .args .k)) (s .args .s .now) in
-    let p = rw (c .before .before .before .before .before .if1 .left) at (s .pre) in
+    let after-put-low = c .before .before .before in
+    let in-if1 = after-put-low .before .before in
+    let start = in-if1 .before .before .before in
+    let a = encoded (contentKindTold (start .args .k)) (start .args .s .now) in
+    let p = rw (in-if1 .if1 .left) at (start .pre) in
     let r = short-room a _ p in
-    let one = c .before .before .before .put-low .last .0 in
-    let k = c .before .before .before .put-low .kept .0 in
+    let one = after-put-low .put-low .last .0 in
+    let k = after-put-low .put-low .kept .0 in
     rw (span-count one 2 (length one - 2) (omega (arith, k, r .0)), k) (r .1)
 
 same-length-2 : tie.Need-same-length-2
@@ -66,10 +73,13 @@ same-length-2 c = search needs
 
 returns-2 : tie.Need-returns-2
 returns-2 c =
-    let s = c .before .before .before .before .before .before .before .before .before .before .before in
-    let a = encoded (contentKindTold (s .args .k)) (s .args .s .now) in
-    let p = rw (c .before .before .before .before .before .before .before .before .if1 .left) at (s .pre) in
-    rw (c .before .before .before .before .before .before .before .before .if1 .left) (short-filled a (s .args .out .now) _ _ _ p (c .before .before .before .before .before .before .put-low .ensures) (c .before .before .fill-content .ensures) refl)
+    let after-fill-content = c .before .before in
+    let after-put-low = after-fill-content .before .before .before .before in
+    let in-if1 = after-put-low .before .before in
+    let start = in-if1 .before .before .before in
+    let a = encoded (contentKindTold (start .args .k)) (start .args .s .now) in
+    let p = rw (in-if1 .if1 .left) at (start .pre) in
+    rw (in-if1 .if1 .left) (short-filled a (start .args .out .now) _ _ _ p (after-put-low .put-low .ensures) (after-fill-content .fill-content .ensures) refl)
 
 pub fill-form-spec : {M : Type 1} → statement M
 fill-form-spec =

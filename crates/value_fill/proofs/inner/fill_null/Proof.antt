@@ -20,7 +20,8 @@ enum-told-2 : tie.Need-enum-told-2
 enum-told-2 c = search needs
 
 put-byte-requires : tie.Need-put-byte-requires
-put-byte-requires c κs = omega (arith, count-is (gives (0 ∷ [])) _ (0 ∷ []) (rw (c .before .enum-told2 .given .1) at (c .before .before .before .before .pre)) refl)
+put-byte-requires c κs =
+    omega (arith, count-is (gives (0 ∷ [])) _ (0 ∷ []) (rw (c .before .enum-told2 .given .1) at (c .before .before .before .before .pre)) refl)
 
 enum-told-3 : tie.Need-enum-told-3
 enum-told-3 c = search needs
@@ -30,10 +31,13 @@ is-plp-requires c κs = search needs
 
 put-low-requires : tie.Need-put-low-requires
 put-low-requires c κs =
-    let s = c .before .before .before .before .before .before in
-    let t = c .before .before .before .enum-told3 .given in
-    let p = rw (t .1) at (s .pre) in
-    let n = null-plp (s .args .declared) (contentKindTold (t .0 .0)) (sym (c .before .before .is-plp .ensures) ∙ c .before .if1 .taken) in
+    let in-if1 = c .before in
+    let after-is-plp = in-if1 .before in
+    let after-enum-told3 = after-is-plp .before in
+    let start = after-enum-told3 .before .before .before in
+    let t = after-enum-told3 .enum-told3 .given in
+    let p = rw (t .1) at (start .pre) in
+    let n = null-plp (start .args .declared) (contentKindTold (t .0 .0)) (sym (after-is-plp .is-plp .ensures) ∙ in-if1 .if1 .taken) in
     omega (arith, count-is _ _ (lowBytes 8 plpNull) p n)
 
 same-length : tie.Need-same-length
@@ -41,18 +45,25 @@ same-length c = search needs
 
 returns : tie.Need-returns
 returns c =
-    let s = c .before .before .before .before .before .before .before .before .before in
-    let t = c .before .before .before .before .before .before .enum-told3 .given in
-    let p = rw (t .1) at (s .pre) in
-    let n = null-plp (s .args .declared) (contentKindTold (t .0 .0)) (sym (c .before .before .before .before .before .is-plp .ensures) ∙ c .before .before .before .before .if1 .taken) in
-    rw (t .1) (filled _ (s .args .out .now) _ (lowBytes 8 plpNull) p n (c .before .before .put-low .ensures))
+    let after-put-low = c .before .before in
+    let in-if1 = after-put-low .before .before in
+    let after-is-plp = in-if1 .before in
+    let after-enum-told3 = after-is-plp .before in
+    let start = after-enum-told3 .before .before .before in
+    let t = after-enum-told3 .enum-told3 .given in
+    let p = rw (t .1) at (start .pre) in
+    let n = null-plp (start .args .declared) (contentKindTold (t .0 .0)) (sym (after-is-plp .is-plp .ensures) ∙ in-if1 .if1 .taken) in
+    rw (t .1) (filled _ (start .args .out .now) _ (lowBytes 8 plpNull) p n (after-put-low .put-low .ensures))
 
 put-low-requires-2 : tie.Need-put-low-requires-2
 put-low-requires-2 c κs =
-    let s = c .before .before .before .before .before .before in
-    let t = c .before .before .before .enum-told3 .given in
-    let p = rw (t .1) at (s .pre) in
-    let n = null-short (s .args .declared) (contentKindTold (t .0 .0)) (sym (c .before .before .is-plp .ensures) ∙ c .before .if1 .left) in
+    let in-if1 = c .before in
+    let after-is-plp = in-if1 .before in
+    let after-enum-told3 = after-is-plp .before in
+    let start = after-enum-told3 .before .before .before in
+    let t = after-enum-told3 .enum-told3 .given in
+    let p = rw (t .1) at (start .pre) in
+    let n = null-short (start .args .declared) (contentKindTold (t .0 .0)) (sym (after-is-plp .is-plp .ensures) ∙ in-if1 .if1 .left) in
     omega (arith, count-is _ _ (lowBytes 2 shortNull) p n)
 
 enum-told-4 : tie.Need-enum-told-4
@@ -65,18 +76,27 @@ same-length-2 : tie.Need-same-length-2
 same-length-2 c = search needs
 
 returns-3 : tie.Need-returns-3
-returns-3 c = rw (c .before .before .before .before .enum-told2 .given .1) (filled _ (c .before .before .before .before .before .before .before .args .out .now) _ (0 ∷ []) (rw (c .before .before .before .before .enum-told2 .given .1) at (c .before .before .before .before .before .before .before .pre)) refl (c .before .before .put-byte .ensures))
+returns-3 c =
+    let after-put-byte = c .before .before in
+    let after-enum-told2 = after-put-byte .before .before in
+    let start = after-enum-told2 .before .before .before in
+    rw (after-enum-told2 .enum-told2 .given .1)
+    (filled _ (start .args .out .now) _ (0 ∷ []) (rw (after-enum-told2 .enum-told2 .given .1) at (start .pre)) refl (after-put-byte .put-byte .ensures))
 
 same-length-3 : tie.Need-same-length-3
 same-length-3 c = search needs
 
 returns-4 : tie.Need-returns-4
 returns-4 c =
-    let s = c .before .before .before .before .before .before .before .before .before in
-    let t = c .before .before .before .before .before .before .enum-told3 .given in
-    let p = rw (t .1) at (s .pre) in
-    let n = null-short (s .args .declared) (contentKindTold (t .0 .0)) (sym (c .before .before .before .before .before .is-plp .ensures) ∙ c .before .before .before .before .if1 .left) in
-    rw (t .1) (filled _ (s .args .out .now) _ (lowBytes 2 shortNull) p n (c .before .before .put-low2 .ensures))
+    let after-put-low2 = c .before .before in
+    let in-if1 = after-put-low2 .before .before in
+    let after-is-plp = in-if1 .before in
+    let after-enum-told3 = after-is-plp .before in
+    let start = after-enum-told3 .before .before .before in
+    let t = after-enum-told3 .enum-told3 .given in
+    let p = rw (t .1) at (start .pre) in
+    let n = null-short (start .args .declared) (contentKindTold (t .0 .0)) (sym (after-is-plp .is-plp .ensures) ∙ in-if1 .if1 .left) in
+    rw (t .1) (filled _ (start .args .out .now) _ (lowBytes 2 shortNull) p n (after-put-low2 .put-low2 .ensures))
 
 returns-5 : tie.Need-returns-5
 returns-5 c = not-refused notCarried _ (rw (c .enum-told4 .given .1) at (c .before .before .before .pre))

@@ -22,12 +22,13 @@ enum-told c = search needs
 
 put-scalar-requires : tie.Need-put-scalar-requires
 put-scalar-requires c κs =
-    let s = c .before .before .before .before in
-    let t = c .before .enum-told .given in
-    let p = rw (t .1) at (s .pre) in
-    let n = fixed-written (s .args .declared) (s .args .s) (kindTold (t .0 .0)) (length (s .args .out .now)) p in
-    let v = scalarTold (s .args .s) in
-    omega (arith, count-is _ _ (scalarBytes v) p n, length-bytes (s .args .s))
+    let after-enum-told = c .before in
+    let start = after-enum-told .before .before .before in
+    let t = after-enum-told .enum-told .given in
+    let p = rw (t .1) at (start .pre) in
+    let n = fixed-written (start .args .declared) (start .args .s) (kindTold (t .0 .0)) (length (start .args .out .now)) p in
+    let v = scalarTold (start .args .s) in
+    omega (arith, count-is _ _ (scalarBytes v) p n, length-bytes (start .args .s))
 
 enum-told-2 : tie.Need-enum-told-2
 enum-told-2 c = search needs
@@ -43,21 +44,24 @@ cast-put-byte c = record { fits = omega (arith, c .bytes-of .ensures, width-most
 
 put-byte-requires : tie.Need-put-byte-requires
 put-byte-requires c κs =
-    let s = c .before .before .before .before .before .before in
-    let t = c .before .before .before .enum-told2 .given in
-    let p = rw (t .1) at (s .pre) in
-    let n = listed-written (s .args .declared) (s .args .s) (listedTold (t .0 .0)) (length (s .args .out .now)) p in
-    let v = scalarTold (s .args .s) in
+    let after-enum-told2 = c .before .before .before in
+    let start = after-enum-told2 .before .before .before in
+    let t = after-enum-told2 .enum-told2 .given in
+    let p = rw (t .1) at (start .pre) in
+    let n = listed-written (start .args .declared) (start .args .s) (listedTold (t .0 .0)) (length (start .args .out .now)) p in
+    let v = scalarTold (start .args .s) in
     omega (arith, count-is _ _ (width (kindOf v) ∷ scalarBytes v) p n)
 
 put-scalar-requires-2 : tie.Need-put-scalar-requires-2
 put-scalar-requires-2 c κs =
-    let s = c .before .before .before .before .before .before .before .before .before .before in
-    let t = c .before .before .before .before .before .before .before .enum-told2 .given in
-    let p = rw (t .1) at (s .pre) in
-    let n = listed-written (s .args .declared) (s .args .s) (listedTold (t .0 .0)) (length (s .args .out .now)) p in
-    let v = scalarTold (s .args .s) in
-    omega (arith, c .before .before .before .put-byte .kept .0, count-is _ _ (width (kindOf v) ∷ scalarBytes v) p n, length-bytes (s .args .s))
+    let after-put-byte = c .before .before .before in
+    let after-enum-told2 = after-put-byte .before .before .before .before in
+    let start = after-enum-told2 .before .before .before in
+    let t = after-enum-told2 .enum-told2 .given in
+    let p = rw (t .1) at (start .pre) in
+    let n = listed-written (start .args .declared) (start .args .s) (listedTold (t .0 .0)) (length (start .args .out .now)) p in
+    let v = scalarTold (start .args .s) in
+    omega (arith, after-put-byte .put-byte .kept .0, count-is _ _ (width (kindOf v) ∷ scalarBytes v) p n, length-bytes (start .args .s))
 
 enum-told-3 : tie.Need-enum-told-3
 enum-told-3 c = search needs
@@ -70,29 +74,36 @@ same-length c = search needs
 
 returns : tie.Need-returns
 returns c =
-    let s = c .before .before .before .before .before .before .before in
-    let t = c .before .before .before .before .enum-told .given in
-    let p = rw (t .1) at (s .pre) in
-    let n = fixed-written (s .args .declared) (s .args .s) (kindTold (t .0 .0)) (length (s .args .out .now)) p in
-    let v = scalarTold (s .args .s) in
-    rw (t .1) (filled _ (s .args .out .now) _ (scalarBytes v) p n (c .before .before .put-scalar .ensures))
+    let after-put-scalar = c .before .before in
+    let after-enum-told = after-put-scalar .before .before in
+    let start = after-enum-told .before .before .before in
+    let t = after-enum-told .enum-told .given in
+    let p = rw (t .1) at (start .pre) in
+    let n = fixed-written (start .args .declared) (start .args .s) (kindTold (t .0 .0)) (length (start .args .out .now)) p in
+    let v = scalarTold (start .args .s) in
+    rw (t .1) (filled _ (start .args .out .now) _ (scalarBytes v) p n (after-put-scalar .put-scalar .ensures))
 
 same-length-2 : tie.Need-same-length-2
 same-length-2 c = search needs
 
 returns-2 : tie.Need-returns-2
 returns-2 c =
-    let s = c .before .before .before .before .before .before .before .before .before .before .before .before .before in
-    let t = c .before .before .before .before .before .before .before .before .before .before .enum-told2 .given in
-    let p = rw (t .1) at (s .pre) in
-    let n = listed-written (s .args .declared) (s .args .s) (listedTold (t .0 .0)) (length (s .args .out .now)) p in
-    let v = scalarTold (s .args .s) in
-    let w = c .before .before .before .before .before .before .before .bytes-of .ensures ∙ ap width (c .before .before .before .before .before .before .before .before .kind-of .ensures) in
-    let out = s .args .out .now in
+    let after-put-scalar2 = c .before .before in
+    let after-put-byte = after-put-scalar2 .before .before .before .before in
+    let after-bytes-of = after-put-byte .before in
+    let after-kind-of = after-bytes-of .before in
+    let after-enum-told2 = after-kind-of .before .before in
+    let start = after-enum-told2 .before .before .before in
+    let t = after-enum-told2 .enum-told2 .given in
+    let p = rw (t .1) at (start .pre) in
+    let n = listed-written (start .args .declared) (start .args .s) (listedTold (t .0 .0)) (length (start .args .out .now)) p in
+    let v = scalarTold (start .args .s) in
+    let w = after-bytes-of .bytes-of .ensures ∙ ap width (after-kind-of .kind-of .ensures) in
+    let out = start .args .out .now in
     rw (t .1) (filled _ out _ (width (kindOf v) ∷ scalarBytes v) p n
-    (c .before .before .put-scalar2 .ensures
-    ∙ (ap (λ (l : List ℕ). sets l 1 (scalarBytes v)) (c .before .before .before .before .before .before .put-byte .ensures)
-    ∙ (sets-then out 0 1 (c .before .before .before .before .before .before .before .bytes-of .result ∷ []) (scalarBytes v) refl ∙ ap (λ (m : ℕ). sets out 0 (m ∷ scalarBytes v)) w))))
+    (after-put-scalar2 .put-scalar2 .ensures
+    ∙ (ap (λ (l : List ℕ). sets l 1 (scalarBytes v)) (after-put-byte .put-byte .ensures)
+    ∙ (sets-then out 0 1 (after-bytes-of .bytes-of .result ∷ []) (scalarBytes v) refl ∙ ap (λ (m : ℕ). sets out 0 (m ∷ scalarBytes v)) w))))
 
 returns-3 : tie.Need-returns-3
 returns-3 c = not-refused kind _ (rw (c .enum-told3 .given .1) at (c .before .before .before .pre))

@@ -28,18 +28,19 @@ part-fill-form-end c = omega (arith, lies (c .before .before))
 
 fill-form-requires : tie.Need-fill-form-requires
 fill-form-requires c κs =
-    let s = c .before .before .before .before in
-    let n : s .args .p .start + s .args .p .count - s .args .p .start ≡ s .args .p .count = omega arith in
-    rw n (rw (span-inside (s .args .buffer .now) (s .args .p .start) (s .args .p .count) (lies s)) at (s .pre))
+    let start = c .before .before .before .before in
+    let n : start .args .p .start + start .args .p .count - start .args .p .start ≡ start .args .p .count = omega arith in
+    rw n (rw (span-inside (start .args .buffer .now) (start .args .p .start) (start .args .p .count) (lies start)) at (start .pre))
 
 same-length : tie.Need-same-length
 same-length c = search needs
 
 returns : tie.Need-returns
 returns c =
-    let s = c .before .before .before .before .before .before .before in
-    let n : s .args .p .start + s .args .p .count - s .args .p .start ≡ s .args .p .count = omega arith in
-    rw (span-inside (s .args .buffer .now) (s .args .p .start) (s .args .p .count) (lies s)) (rw n at (c .before .before .fill-form .ensures))
+    let after-fill-form = c .before .before in
+    let start = after-fill-form .before .before .before .before .before in
+    let n : start .args .p .start + start .args .p .count - start .args .p .start ≡ start .args .p .count = omega arith in
+    rw (span-inside (start .args .buffer .now) (start .args .p .start) (start .args .p .count) (lies start)) (rw n at (after-fill-form .fill-form .ensures))
 
 pub fill-span-spec : {M : Type 1} → statement M
 fill-span-spec =

@@ -18,13 +18,14 @@ is-short-requires c κs = search needs
 
 put-head-requires : tie.Need-put-head-requires
 put-head-requires c κs =
-    let s = c .before .before .before .before in
-    let k = contentKindTold (s .args .k) in
-    let p = s .args .p in
-    let short = c .before .is-short .result in
-    let a = encodedPart k (spanTold (s .args .buffer .now) p) in
-    let e = untyped-written (s .args .buffer .now) (p .start) (p .count) _ k short (c .before .is-short .ensures) (s .pre) in
-    let r = head-room (untypedHead k short) (not short) a _ (s .pre ∙ ap wrote e) in
+    let after-is-short = c .before in
+    let start = after-is-short .before .before .before in
+    let k = contentKindTold (start .args .k) in
+    let p = start .args .p in
+    let short = after-is-short .is-short .result in
+    let a = encodedPart k (spanTold (start .args .buffer .now) p) in
+    let e = untyped-written (start .args .buffer .now) (p .start) (p .count) _ k short (after-is-short .is-short .ensures) (start .pre) in
+    let r = head-room (untypedHead k short) (not short) a _ (start .pre ∙ ap wrote e) in
     r .0
 
 untyped-head-requires : tie.Need-untyped-head-requires
@@ -35,42 +36,49 @@ cast-head c = search needs
 
 sub-fill-span : tie.Need-sub-fill-span
 sub-fill-span c =
-    let s = c .before .before .before .before .before .before .before .before in
-    let k = contentKindTold (s .args .k) in
-    let p = s .args .p in
-    let short = c .before .before .before .before .before .is-short .result in
-    let a = encodedPart k (spanTold (s .args .buffer .now) p) in
-    let e = untyped-written (s .args .buffer .now) (p .start) (p .count) _ k short (c .before .before .before .before .before .is-short .ensures) (s .pre) in
-    let r = head-room (untypedHead k short) (not short) a _ (s .pre ∙ ap wrote e) in
-    omega (arith, r .0, c .before .before .before .put-head .kept .1 .1 .0, c .untyped-head .ensures short)
+    let after-put-head = c .before .before .before in
+    let after-is-short = after-put-head .before .before in
+    let start = after-is-short .before .before .before in
+    let k = contentKindTold (start .args .k) in
+    let p = start .args .p in
+    let short = after-is-short .is-short .result in
+    let a = encodedPart k (spanTold (start .args .buffer .now) p) in
+    let e = untyped-written (start .args .buffer .now) (p .start) (p .count) _ k short (after-is-short .is-short .ensures) (start .pre) in
+    let r = head-room (untypedHead k short) (not short) a _ (start .pre ∙ ap wrote e) in
+    omega (arith, r .0, after-put-head .put-head .kept .1 .1 .0, c .untyped-head .ensures short)
 
 part-fill-span-start : tie.Need-part-fill-span-start
 part-fill-span-start c =
-    let s = c .before .before .before .before .before .before .before .before in
-    let k = contentKindTold (s .args .k) in
-    let p = s .args .p in
-    let short = c .before .before .before .before .before .is-short .result in
-    let a = encodedPart k (spanTold (s .args .buffer .now) p) in
-    let e = untyped-written (s .args .buffer .now) (p .start) (p .count) _ k short (c .before .before .before .before .before .is-short .ensures) (s .pre) in
-    let r = head-room (untypedHead k short) (not short) a _ (s .pre ∙ ap wrote e) in
-    omega (arith, r .0, c .before .before .before .put-head .kept .1 .1 .0, c .untyped-head .ensures short)
+    let after-put-head = c .before .before .before in
+    let after-is-short = after-put-head .before .before in
+    let start = after-is-short .before .before .before in
+    let k = contentKindTold (start .args .k) in
+    let p = start .args .p in
+    let short = after-is-short .is-short .result in
+    let a = encodedPart k (spanTold (start .args .buffer .now) p) in
+    let e = untyped-written (start .args .buffer .now) (p .start) (p .count) _ k short (after-is-short .is-short .ensures) (start .pre) in
+    let r = head-room (untypedHead k short) (not short) a _ (start .pre ∙ ap wrote e) in
+    omega (arith, r .0, after-put-head .put-head .kept .1 .1 .0, c .untyped-head .ensures short)
 
 part-fill-span-end : tie.Need-part-fill-span-end
 part-fill-span-end c = search needs
 
 fill-span-requires : tie.Need-fill-span-requires
 fill-span-requires c κs =
-    let s = c .before .before .before .before .before .before .before .before .before in
-    let k = contentKindTold (s .args .k) in
-    let p = s .args .p in
-    let short = c .before .before .before .before .before .before .is-short .result in
-    let a = encodedPart k (spanTold (s .args .buffer .now) p) in
-    let e = untyped-written (s .args .buffer .now) (p .start) (p .count) _ k short (c .before .before .before .before .before .before .is-short .ensures) (s .pre) in
-    let r = head-room (untypedHead k short) (not short) a _ (s .pre ∙ ap wrote e) in
-    let one = c .before .before .before .before .put-head .last .1 .1 .0 in
-    let m = c .before .untyped-head .result in
-    let i = c .before .untyped-head .ensures short in
-    let z = c .before .before .before .before .put-head .kept .1 .1 .0 in
+    let after-untyped-head = c .before in
+    let after-put-head = after-untyped-head .before .before .before in
+    let after-is-short = after-put-head .before .before in
+    let start = after-is-short .before .before .before in
+    let k = contentKindTold (start .args .k) in
+    let p = start .args .p in
+    let short = after-is-short .is-short .result in
+    let a = encodedPart k (spanTold (start .args .buffer .now) p) in
+    let e = untyped-written (start .args .buffer .now) (p .start) (p .count) _ k short (after-is-short .is-short .ensures) (start .pre) in
+    let r = head-room (untypedHead k short) (not short) a _ (start .pre ∙ ap wrote e) in
+    let one = after-put-head .put-head .last .1 .1 .0 in
+    let m = after-untyped-head .untyped-head .result in
+    let i = after-untyped-head .untyped-head .ensures short in
+    let z = after-put-head .put-head .kept .1 .1 .0 in
     rw (span-count one m (length one - m) (omega (arith, z, r .0)), z, i) (r .1)
 
 same-length : tie.Need-same-length
@@ -78,14 +86,20 @@ same-length c = search needs
 
 returns : tie.Need-returns
 returns c =
-    let s = c .before .before .before .before .before .before .before .before .before .before .before .before in
-    let k = contentKindTold (s .args .k) in
-    let p = s .args .p in
-    let short = c .before .before .before .before .before .before .before .before .before .is-short .result in
-    let a = encodedPart k (spanTold (s .args .buffer .now) p) in
-    let e = untyped-written (s .args .buffer .now) (p .start) (p .count) _ k short (c .before .before .before .before .before .before .before .before .before .is-short .ensures) (s .pre) in
-    let r = head-room (untypedHead k short) (not short) a _ (s .pre ∙ ap wrote e) in
-    sym (e ∙ sym (head-filled (untypedHead k short) (not short) a (s .args .out .now) _ _ _ _ (s .pre ∙ ap wrote e) (c .before .before .before .before .untyped-head .ensures short) (c .before .before .before .before .before .before .before .put-head .ensures) (c .before .before .fill-span .ensures) refl))
+    let after-fill-span = c .before .before in
+    let after-untyped-head = after-fill-span .before .before in
+    let after-put-head = after-untyped-head .before .before .before in
+    let after-is-short = after-put-head .before .before in
+    let start = after-is-short .before .before .before in
+    let k = contentKindTold (start .args .k) in
+    let p = start .args .p in
+    let short = after-is-short .is-short .result in
+    let a = encodedPart k (spanTold (start .args .buffer .now) p) in
+    let e = untyped-written (start .args .buffer .now) (p .start) (p .count) _ k short (after-is-short .is-short .ensures) (start .pre) in
+    let r = head-room (untypedHead k short) (not short) a _ (start .pre ∙ ap wrote e) in
+    sym
+    (e ∙
+    sym (head-filled (untypedHead k short) (not short) a (start .args .out .now) _ _ _ _ (start .pre ∙ ap wrote e) (after-untyped-head .untyped-head .ensures short) (after-put-head .put-head .ensures) (after-fill-span .fill-span .ensures) refl))
 
 pub fill-untyped-content-spec : {M : Type 1} → statement M
 fill-untyped-content-spec =

@@ -26,43 +26,68 @@ untyped-byte-requires c κs = search needs
 
 put-byte-requires : tie.Need-put-byte-requires
 put-byte-requires c κs =
-    let s = c .before .before .before .before .before in
-    let v = scalarTold (s .args .s) in
-    let n = count-is _ _ (byteLenByte (untypedType (kindOf v)) ∷ width (kindOf v) ∷ width (kindOf v) ∷ scalarBytes v) (s .pre) (untyped-bytes (s .args .s)) in
+    let start = c .before .before .before .before .before in
+    let v = scalarTold (start .args .s) in
+    let n =
+    count-is _ _ (byteLenByte (untypedType (kindOf v)) ∷ width (kindOf v) ∷ width (kindOf v) ∷ scalarBytes v) (start .pre)
+    (untyped-bytes (start .args .s)) in
     omega (arith, n)
 
 put-byte-requires-2 : tie.Need-put-byte-requires-2
 put-byte-requires-2 c κs =
-    let s = c .before .before .before .before .before .before .before .before .before in
-    let v = scalarTold (s .args .s) in
-    let n = count-is _ _ (byteLenByte (untypedType (kindOf v)) ∷ width (kindOf v) ∷ width (kindOf v) ∷ scalarBytes v) (s .pre) (untyped-bytes (s .args .s)) in
-    omega (arith, n, c .before .before .before .put-byte .kept .0)
+    let after-put-byte = c .before .before .before in
+    let start = after-put-byte .before .before .before .before .before .before in
+    let v = scalarTold (start .args .s) in
+    let n =
+    count-is _ _ (byteLenByte (untypedType (kindOf v)) ∷ width (kindOf v) ∷ width (kindOf v) ∷ scalarBytes v) (start .pre)
+    (untyped-bytes (start .args .s)) in
+    omega (arith, n, after-put-byte .put-byte .kept .0)
 
 put-byte-requires-3 : tie.Need-put-byte-requires-3
 put-byte-requires-3 c κs =
-    let s = c .before .before .before .before .before .before .before .before .before .before .before .before .before in
-    let v = scalarTold (s .args .s) in
-    let n = count-is _ _ (byteLenByte (untypedType (kindOf v)) ∷ width (kindOf v) ∷ width (kindOf v) ∷ scalarBytes v) (s .pre) (untyped-bytes (s .args .s)) in
-    omega (arith, n, c .before .before .before .before .before .before .before .put-byte .kept .0, c .before .before .before .put-byte2 .kept .0)
+    let after-put-byte2 = c .before .before .before in
+    let after-put-byte = after-put-byte2 .before .before .before .before in
+    let start = after-put-byte .before .before .before .before .before .before in
+    let v = scalarTold (start .args .s) in
+    let n =
+    count-is _ _ (byteLenByte (untypedType (kindOf v)) ∷ width (kindOf v) ∷ width (kindOf v) ∷ scalarBytes v) (start .pre)
+    (untyped-bytes (start .args .s)) in
+    omega (arith, n, after-put-byte .put-byte .kept .0, after-put-byte2 .put-byte2 .kept .0)
 
 put-scalar-requires : tie.Need-put-scalar-requires
 put-scalar-requires c κs =
-    let s = c .before .before .before .before .before .before .before .before .before .before .before .before .before .before .before .before .before in
-    let v = scalarTold (s .args .s) in
-    let n = count-is _ _ (byteLenByte (untypedType (kindOf v)) ∷ width (kindOf v) ∷ width (kindOf v) ∷ scalarBytes v) (s .pre) (untyped-bytes (s .args .s)) in
-    omega (arith, n, length-bytes (s .args .s), c .before .before .before .before .before .before .before .before .before .before .before .put-byte .kept .0, c .before .before .before .before .before .before .before .put-byte2 .kept .0, c .before .before .before .put-byte3 .kept .0)
+    let after-put-byte3 = c .before .before .before in
+    let after-put-byte2 = after-put-byte3 .before .before .before .before in
+    let after-put-byte = after-put-byte2 .before .before .before .before in
+    let start = after-put-byte .before .before .before .before .before .before in
+    let v = scalarTold (start .args .s) in
+    let n =
+    count-is _ _ (byteLenByte (untypedType (kindOf v)) ∷ width (kindOf v) ∷ width (kindOf v) ∷ scalarBytes v) (start .pre)
+    (untyped-bytes (start .args .s)) in
+    omega (arith, n, length-bytes (start .args .s), after-put-byte .put-byte .kept .0, after-put-byte2 .put-byte2 .kept .0, after-put-byte3 .put-byte3 .kept .0)
 
 same-length : tie.Need-same-length
 same-length c = search needs
 
 returns : tie.Need-returns
 returns c =
-    let s = c .before .before .before .before .before .before .before .before .before .before .before .before .before .before .before .before .before .before .before .before in
-    let v = scalarTold (s .args .s) in
-    let n = count-is _ _ (byteLenByte (untypedType (kindOf v)) ∷ width (kindOf v) ∷ width (kindOf v) ∷ scalarBytes v) (s .pre) (untyped-bytes (s .args .s)) in
-    let w = c .before .before .before .before .before .before .before .before .before .before .before .before .before .before .before .before .before .bytes-of .ensures ∙ ap width (c .before .before .before .before .before .before .before .before .before .before .before .before .before .before .before .before .before .before .kind-of .ensures) in
-    let t = c .before .before .before .before .before .before .before .before .before .before .before .before .before .before .before .untyped-byte .ensures ∙ ap (λ k. byteLenByte (untypedType k)) (c .before .before .before .before .before .before .before .before .before .before .before .before .before .before .before .before .before .before .kind-of .ensures) in
-    filled _ (s .args .out .now) _ _ (s .pre) (untyped-bytes (s .args .s)) (rw (c .before .before .put-scalar .ensures, c .before .before .before .before .before .before .put-byte3 .ensures, c .before .before .before .before .before .before .before .before .before .before .put-byte2 .ensures, c .before .before .before .before .before .before .before .before .before .before .before .before .before .before .put-byte .ensures, w, t))
+    let after-put-scalar = c .before .before in
+    let after-put-byte3 = after-put-scalar .before .before .before .before in
+    let after-put-byte2 = after-put-byte3 .before .before .before .before in
+    let after-put-byte = after-put-byte2 .before .before .before .before in
+    let after-untyped-byte = after-put-byte .before in
+    let after-bytes-of = after-untyped-byte .before .before in
+    let after-kind-of = after-bytes-of .before in
+    let start = after-kind-of .before .before in
+    let v = scalarTold (start .args .s) in
+    let n =
+    count-is _ _ (byteLenByte (untypedType (kindOf v)) ∷ width (kindOf v) ∷ width (kindOf v) ∷ scalarBytes v) (start .pre)
+    (untyped-bytes (start .args .s)) in
+    let w = after-bytes-of .bytes-of .ensures ∙ ap width (after-kind-of .kind-of .ensures) in
+    let t = after-untyped-byte .untyped-byte .ensures ∙ ap (λ k. byteLenByte (untypedType k)) (after-kind-of .kind-of .ensures) in
+    filled _ (start .args .out .now) _ _ (start .pre) (untyped-bytes (start .args .s))
+    (rw
+    (after-put-scalar .put-scalar .ensures, after-put-byte3 .put-byte3 .ensures, after-put-byte2 .put-byte2 .ensures, after-put-byte .put-byte .ensures, w, t))
 
 pub fill-untyped-scalar-spec : {M : Type 1} → statement M
 fill-untyped-scalar-spec =

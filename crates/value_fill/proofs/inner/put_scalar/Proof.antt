@@ -26,14 +26,20 @@ not-nine (inr (inr (inr (inr (inr (inr (inr (inl e)))))))) = omega arith
 not-nine (inr (inr (inr (inr (inr (inr (inr (inr e)))))))) = omega arith
 
 put-guid-requires : tie.Need-put-guid-requires
-put-guid-requires c κs = rw (c .before .before .s .given .1) at (c .before .before .before .before .before .pre)
+put-guid-requires c κs =
+    let after-s = c .before .before in
+    let start = after-s .before .before .before in
+    rw (after-s .s .given .1) at (start .pre)
 
 same-length : tie.Need-same-length
 same-length c = search needs
 
 returns : tie.Need-returns
 unfolding scalarBytes guidWire
-returns c = rw (c .before .before .before .before .before .s .given .1) (c .before .before .put-guid .ensures)
+returns c =
+    let after-put-guid = c .before .before in
+    let after-s = after-put-guid .before .before .before in
+    rw (after-s .s .given .1) (after-put-guid .put-guid .ensures)
 
 number-of-requires : tie.Need-number-of-requires
 number-of-requires c κs = search needs
@@ -45,16 +51,25 @@ bytes-of-requires : tie.Need-bytes-of-requires
 bytes-of-requires c κs = search needs
 
 put-low-requires : tie.Need-put-low-requires
-put-low-requires c κs = rw (c .bytes-of .ensures, c .before .kind-of .ensures) (c .before .before .before .before .before .before .pre)
+put-low-requires c κs =
+    let after-kind-of = c .before in
+    let start = after-kind-of .before .before .before .before .before in
+    rw (c .bytes-of .ensures, after-kind-of .kind-of .ensures) (start .pre)
 
 same-length-2 : tie.Need-same-length-2
 same-length-2 c = search needs
 
 returns-2 : tie.Need-returns-2
 returns-2 c =
-    let a = c .before .before .before .before .before .before .before .before .before .args in
-    let low = low-bytes (a .s) (λ g e. not-nine (rw e at (c .before .before .before .before .before .before .before .match .keys2))) in
-    rw (low, ← c .before .before .before .before .kind-of .ensures, ← c .before .before .before .bytes-of .ensures, ← c .before .before .before .before .before .number-of .ensures) (c .before .before .put-low .ensures)
+    let after-put-low = c .before .before in
+    let after-bytes-of = after-put-low .before in
+    let after-kind-of = after-bytes-of .before in
+    let after-number-of = after-kind-of .before in
+    let after-match = after-number-of .before .before in
+    let start = after-match .before .before in
+    let a = start .args in
+    let low = low-bytes (a .s) (λ g e. not-nine (rw e at (after-match .match .keys2))) in
+    rw (low, ← after-kind-of .kind-of .ensures, ← after-bytes-of .bytes-of .ensures, ← after-number-of .number-of .ensures) (after-put-low .put-low .ensures)
 
 pub put-scalar-spec : {M : Type 1} → statement M
 put-scalar-spec =

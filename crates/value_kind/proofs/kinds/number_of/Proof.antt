@@ -77,13 +77,16 @@ returns-2 : tie.Need-returns-2
 returns-2 c = search needs
 
 returns-3 : tie.Need-returns-3
-returns-3 c = rw (c .before .before .s3 .given .1) (c .of-i16 .ensures ∙ ap (unsigned 2) (toZ-ofZ {w = w16} (record { sfits = c .before .known-told3 .given .0 .1 })))
+returns-3 c =
+    rw (c .before .before .s3 .given .1) (c .of-i16 .ensures ∙ ap (unsigned 2) (toZ-ofZ {w = w16} (record { sfits = c .before .known-told3 .given .0 .1 })))
 
 returns-4 : tie.Need-returns-4
-returns-4 c = rw (c .before .before .s4 .given .1) (c .of-i32 .ensures ∙ ap (unsigned 4) (toZ-ofZ {w = w32} (record { sfits = c .before .known-told4 .given .0 .1 })))
+returns-4 c =
+    rw (c .before .before .s4 .given .1) (c .of-i32 .ensures ∙ ap (unsigned 4) (toZ-ofZ {w = w32} (record { sfits = c .before .known-told4 .given .0 .1 })))
 
 returns-5 : tie.Need-returns-5
-returns-5 c = rw (c .before .before .s5 .given .1) (c .of-i64 .ensures ∙ ap (unsigned 8) (toZ-ofZ {w = w64} (record { sfits = c .before .known-told5 .given .0 .1 })))
+returns-5 c =
+    rw (c .before .before .s5 .given .1) (c .of-i64 .ensures ∙ ap (unsigned 8) (toZ-ofZ {w = w64} (record { sfits = c .before .known-told5 .given .0 .1 })))
 
 returns-6 : tie.Need-returns-6
 returns-6 c = rw (c .before .before .s6 .given .1) (c .to-bits32 .ensures)

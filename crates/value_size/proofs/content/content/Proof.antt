@@ -31,24 +31,46 @@ framed-span-requires c κs = search needs
 
 returns : tie.Need-returns
 returns c =
-    let a = c .before .before .before .before .before .before .before .before .before .args in
-    let j = same-content (contentKindTold (c .before .before .before .before .before .before .f .given .0 .0)) (contentKindTold (a .k)) (sym (c .before .before .before .if1 .taken) ∙ c .before .before .before .before .same-content .ensures) in
-    rw (c .before .before .before .before .before .before .f .given .1) (content-size (a .declared) _ (contentKindTold (a .k)) (spanTold (a .buffer .now) (a .p)) _ _ _ j (c .before .before .is-plp .ensures) (c .before .content-bound .ensures) (c .framed-span .ensures [] refl))
+    let after-content-bound = c .before in
+    let after-is-plp = after-content-bound .before in
+    let in-if1 = after-is-plp .before in
+    let after-same-content = in-if1 .before in
+    let after-f = after-same-content .before .before in
+    let start = after-f .before .before .before in
+    let a = start .args in
+    let j =
+    same-content (contentKindTold (after-f .f .given .0 .0)) (contentKindTold (a .k))
+    (sym (in-if1 .if1 .taken) ∙ after-same-content .same-content .ensures) in
+    rw (after-f .f .given .1)
+    (content-size (a .declared) _ (contentKindTold (a .k)) (spanTold (a .buffer .now) (a .p)) _ _ _ j (after-is-plp .is-plp .ensures)
+    (after-content-bound .content-bound .ensures) (c .framed-span .ensures [] refl))
 
 enum-told-3 : tie.Need-enum-told-3
 enum-told-3 c = search needs
 
 returns-2 : tie.Need-returns-2
 unfolding wrote
-returns-2 c = let a = c .before .before .before .args in rw (c .enum-told .given .1, no-fixed (a .declared) (spanTold (a .buffer .now) (a .p)) _ (contentKindTold (a .k)))
+returns-2 c =
+    let a = c .before .before .before .args in rw (c .enum-told .given .1, no-fixed (a .declared) (spanTold (a .buffer .now) (a .p)) _ (contentKindTold (a .k)))
 
 returns-3 : tie.Need-returns-3
 unfolding wrote
-returns-3 c = let a = c .before .before .before .args in rw (c .enum-told2 .given .1, no-listed (a .declared) (spanTold (a .buffer .now) (a .p)) _ (contentKindTold (a .k)))
+returns-3 c =
+    let a = c .before .before .before .args in
+    rw (c .enum-told2 .given .1, no-listed (a .declared) (spanTold (a .buffer .now) (a .p)) _ (contentKindTold (a .k)))
 
 returns-4 : tie.Need-returns-4
 unfolding wrote
-returns-4 c = let a = c .before .before .before .before .before .before .args in rw (c .before .before .before .f .given .1, other-content (a .declared) (spanTold (a .buffer .now) (a .p)) _ (contentKindTold (a .k)) (sym (c .if1 .left) ∙ c .before .same-content .ensures))
+returns-4 c =
+    let after-same-content = c .before in
+    let after-f = after-same-content .before .before in
+    let start = after-f .before .before .before in
+    let a = start .args in
+    rw (
+      after-f .f .given .1,
+      other-content (a .declared) (spanTold (a .buffer .now) (a .p)) _ (contentKindTold (a .k))
+          (sym (c .if1 .left) ∙ after-same-content .same-content .ensures),
+    )
 
 returns-5 : tie.Need-returns-5
 unfolding wrote

@@ -14,8 +14,11 @@ enum-known-content c = search needs
 
 returns : tie.Need-returns
 returns c =
-    let a = c .before .before .before .before .before .before .args in
-    let w = sym (ap wroteTold (c .before .before .content .given .1)) ∙ c .before .before .before .before .encoded .ensures in
+    let after-content = c .before .before in
+    let after-encoded = after-content .before .before in
+    let start = after-encoded .before .before in
+    let a = start .args in
+    let w = sym (ap wroteTold (after-content .content .given .1)) ∙ after-encoded .encoded .ensures in
     λ h l. framed-long h (a .plp) (a .bound) _ _ w (c .if1 .taken)
 
 cast-formed : tie.Need-cast-formed
@@ -32,14 +35,21 @@ enum-known-content-2 c = search needs
 
 returns-2 : tie.Need-returns-2
 returns-2 c =
-    let a = c .before .before .before .before .before .before .before .args in
-    let w = sym (ap wroteTold (c .before .before .before .content .given .1)) ∙ c .before .before .before .before .before .encoded .ensures in
-    λ h l. rw (← l) (framed-size h (a .plp) (a .bound) _ _ _ w (c .before .if1 .left) (c .formed .ensures .0))
+    let in-if1 = c .before in
+    let after-content = in-if1 .before .before in
+    let after-encoded = after-content .before .before in
+    let start = after-encoded .before .before in
+    let a = start .args in
+    let w = sym (ap wroteTold (after-content .content .given .1)) ∙ after-encoded .encoded .ensures in
+    λ h l. rw (← l) (framed-size h (a .plp) (a .bound) _ _ _ w (in-if1 .if1 .left) (c .formed .ensures .0))
 
 returns-3 : tie.Need-returns-3
 returns-3 c =
-    let a = c .before .before .before .before .before .args in
-    let w = sym (ap wroteTold (c .before .content2 .given .1)) ∙ c .before .before .before .encoded .ensures in
+    let after-content2 = c .before in
+    let after-encoded = after-content2 .before .before in
+    let start = after-encoded .before .before in
+    let a = start .args in
+    let w = sym (ap wroteTold (after-content2 .content2 .given .1)) ∙ after-encoded .encoded .ensures in
     λ h l. framed-refused h (a .plp) (a .bound) _ _ w
 
 pub framed-spec : {M : Type 1} → statement M

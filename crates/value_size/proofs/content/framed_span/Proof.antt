@@ -34,9 +34,12 @@ framed-requires c κs = search needs
 
 returns : tie.Need-returns
 returns c =
-    let a = c .before .before .before .before .before .args in
+    let after-before = c .before in
+    let place-2 = after-before .before in
+    let start = place-2 .before .before .before in
+    let a = start .args in
     let n : a .p .start + a .p .count - a .p .start ≡ a .p .count = omega arith in
-    λ h l. rw (span-inside (a .buffer .now) (a .p .start) (a .p .count) (lies (c .before .before))) (rw n at (c .framed .ensures h l))
+    λ h l. rw (span-inside (a .buffer .now) (a .p .start) (a .p .count) (lies (after-before .before))) (rw n at (c .framed .ensures h l))
 
 returns-2 : tie.Need-returns-2
 unfolding wrote

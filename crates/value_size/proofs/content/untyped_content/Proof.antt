@@ -21,10 +21,16 @@ framed-span-requires c κs = search needs
 
 returns : tie.Need-returns
 returns c =
-    let a = c .before .before .before .before .before .args in
-    let short = c .before .before .before .is-short .result in
+    let after-untyped-limit = c .before in
+    let after-untyped-head = after-untyped-limit .before in
+    let after-is-short = after-untyped-head .before in
+    let start = after-is-short .before .before in
+    let a = start .args in
+    let short = after-is-short .is-short .result in
     let k = contentKindTold (a .k) in
-    untyped-size (a .buffer .now) (a .p .start) (a .p .count) k short _ _ (c .before .before .before .is-short .ensures) (c .before .untyped-limit .ensures) (c .framed-span .ensures (untypedHead k short) (sym (c .before .before .untyped-head .ensures short)))
+    untyped-size (a .buffer .now) (a .p .start) (a .p .count) k short _ _ (after-is-short .is-short .ensures)
+    (after-untyped-limit .untyped-limit .ensures)
+    (c .framed-span .ensures (untypedHead k short) (sym (after-untyped-head .untyped-head .ensures short)))
 
 pub untyped-content-spec : {M : Type 1} → statement M
 untyped-content-spec =

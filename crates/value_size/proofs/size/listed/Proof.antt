@@ -12,13 +12,20 @@ bytes-of-requires : tie.Need-bytes-of-requires
 bytes-of-requires c κs = search needs
 
 returns : tie.Need-returns
-returns c = rw (sym (c .before .before .before .is-listed .ensures) ∙ c .before .before .if1 .taken, lt-ltb _ _ (rw (c .before .bytes-of .ensures) at (c .if2 .taken)))
+returns c =
+    rw (sym (c .before .before .before .is-listed .ensures) ∙ c .before .before .if1 .taken, lt-ltb _ _ (rw (c .before .bytes-of .ensures) at (c .if2 .taken)))
 
 add-t6 : tie.Need-add-t6
 add-t6 c = search needs
 
 returns-2 : tie.Need-returns-2
-returns-2 c = rw (sym (c .before .before .before .is-listed .ensures) ∙ c .before .before .if1 .taken, c .before .bytes-of .ensures, le-ltb _ _ (rw (c .before .bytes-of .ensures) at (c .if2 .left)))
+returns-2 c =
+    rw (
+      sym (c .before .before .before .is-listed .ensures) ∙ c .before .before .if1 .taken,
+      c .before .bytes-of .ensures,
+      le-ltb _ _
+          (rw (c .before .bytes-of .ensures) at (c .if2 .left)),
+    )
 
 returns-3 : tie.Need-returns-3
 returns-3 c = rw (sym (c .before .is-listed .ensures) ∙ c .if1 .left)

@@ -30,10 +30,18 @@ enum-told-2 : tie.Need-enum-told-2
 enum-told-2 c = search needs
 
 returns : tie.Need-returns
-returns c = rw (c .before .before .before .f .given .1, fixed-scalar (c .before .before .before .before .before .args .declared) (c .before .before .before .before .before .args .s), ← c .before .kind-of .ensures) (c .fixed .ensures)
+returns c =
+    let after-kind-of = c .before in
+    let after-f = after-kind-of .before .before in
+    let start = after-f .before .before in
+    rw (after-f .f .given .1, fixed-scalar (start .args .declared) (start .args .s), ← after-kind-of .kind-of .ensures) (c .fixed .ensures)
 
 returns-2 : tie.Need-returns-2
-returns-2 c = rw (c .before .before .before .f2 .given .1, listed-scalar (c .before .before .before .before .before .args .declared) (c .before .before .before .before .before .args .s), ← c .before .kind-of2 .ensures) (c .listed .ensures)
+returns-2 c =
+    let after-kind-of2 = c .before in
+    let after-f2 = after-kind-of2 .before .before in
+    let start = after-f2 .before .before in
+    rw (after-f2 .f2 .given .1, listed-scalar (start .args .declared) (start .args .s), ← after-kind-of2 .kind-of2 .ensures) (c .listed .ensures)
 
 returns-3 : tie.Need-returns-3
 unfolding wrote

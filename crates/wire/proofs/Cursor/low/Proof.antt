@@ -19,7 +19,8 @@ inside-requires : tie.Need-inside-requires
 inside-requires c κs = search needs
 
 -- the test said that the bytes are there
-there : (c : tie.Then1) → c .before .before .before .before .args .self .at + c .before .before .bytes .result ≤ length (c .before .before .before .before .args .s .now)
+there : (c : tie.Then1) →
+    c .before .before .before .before .args .self .at + c .before .before .bytes .result ≤ length (c .before .before .before .before .args .s .now)
 there c = leb-true _ _ (sym (c .before .inside .ensures) ∙ c .if1 .taken)
 
 low-at-requires : tie.Need-low-at-requires
@@ -30,11 +31,15 @@ add-t8 c = omega (arith, there (c .before))
 
 returns : tie.Need-returns
 returns c =
-    let a = c .before .before .before .before .before .args in
-    let b = c .before .before .before .bytes .result in
-    let e : b ≡ widthOf (a .w) = c .before .before .before .bytes .ensures in
-    let f : took (c .low-at .result) (a .self .at + b) ≡ took (lowNat (take (widthOf (a .w)) (drop (a .self .at) (a .s .now)))) (a .self .at + widthOf (a .w)) = rw (c .low-at .ensures .0, e) in
-    let l : a .self .at + widthOf (a .w) ≤ length (a .s .now) = omega (arith, e, there (c .before)) in
+    let place-1 = c .before in
+    let after-bytes = place-1 .before .before in
+    let start = after-bytes .before .before in
+    let a = start .args in
+    let b = after-bytes .bytes .result in
+    let e : b ≡ widthOf (a .w) = after-bytes .bytes .ensures in
+    let f : took (c .low-at .result) (a .self .at + b) ≡ took (lowNat (take (widthOf (a .w)) (drop (a .self .at) (a .s .now)))) (a .self .at + widthOf (a .w)) =
+    rw (c .low-at .ensures .0, e) in
+    let l : a .self .at + widthOf (a .w) ≤ length (a .s .now) = omega (arith, e, there (place-1)) in
     (f ∙ low-there (a .s .now) (a .self .at) (widthOf (a .w)) l, rw e at (c .low-at .ensures .1))
 
 returns-2 : tie.Need-returns-2

@@ -43,13 +43,26 @@ add-t11 c = search needs
 
 returns : tie.Need-returns
 returns c =
-    let a = c .before .before .before .before .before .args in
+    let after-low-at3 = c .before in
+    let after-low-at2 = after-low-at3 .before in
+    let after-low-at = after-low-at2 .before in
+    let start = after-low-at .before .before in
+    let a = start .args in
     let r = drop (a .at) (a .s .now) in
-    let l : 8 ≤ length r = omega (arith, length-drop (a .at) (a .s .now), c .before .before .before .before .before .pre) in
-    let two = c .before .before .low-at2 .ensures .0 in
-    let three = c .before .low-at3 .ensures .0 in
+    let l : 8 ≤ length r = omega (arith, length-drop (a .at) (a .s .now), start .pre) in
+    let two = after-low-at2 .low-at2 .ensures .0 in
+    let three = after-low-at3 .low-at3 .ensures .0 in
     let high = c .high-at .ensures .0 in
-    rw (c .before .before .before .low-at .ensures .0, two, three, high, ← drop-drop 4 (a .at) (a .s .now), ← drop-drop 6 (a .at) (a .s .now), ← drop-drop 8 (a .at) (a .s .now))
+    rw (
+      after-low-at .low-at .ensures .0,
+      two,
+      three,
+      high,
+      ← drop-drop 4 (a .at) (a .s .now),
+      ← drop-drop 6 (a .at) (a .s .now),
+      ← drop-drop 8 (a .at)
+          (a .s .now),
+    )
     (guid-read r l)
 
 pub guid-at-spec : {M : Type 1} → statement M

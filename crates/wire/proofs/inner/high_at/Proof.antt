@@ -35,12 +35,16 @@ wide-requires : tie.Need-wide-requires Inv-loop μ-loop
 wide-requires c κs = search needs
 
 next : (c : tie.After-wide Inv-loop μ-loop) →
-    (c .before .before .before .loop .n * 256 + c .wide .result < 256 ^ (c .before .before .before .loop .i + 1)) × (c .before .before .before .loop .n * 256 + c .wide .result < 2 ^ 64)
+    (c .before .before .before .loop .n * 256 + c .wide .result < 256 ^ (c .before .before .before .loop .i + 1)) ×
+    (c .before .before .before .loop .n * 256 + c .wide .result < 2 ^ 64)
 next c =
-    let l = c .before .before .before .loop in
-    let s = c .before .before .before .before .before in
-    high-turn-lt _ _ _ _ (c .before .before .loop-test .taken) (s .pre .0) (l .inv .2)
-    (rw (c .wide .ensures) (omega (arith, c .before .shared-slice-known2 .given (s .args .at + l .i))))
+    let after-shared-slice-known2 = c .before in
+    let in-loop = after-shared-slice-known2 .before in
+    let at-loop = in-loop .before in
+    let start = at-loop .before .before in
+    let l = at-loop .loop in
+    high-turn-lt _ _ _ _ (in-loop .loop-test .taken) (start .pre .0) (l .inv .2)
+    (rw (c .wide .ensures) (omega (arith, after-shared-slice-known2 .shared-slice-known2 .given (start .args .at + l .i))))
 
 add-n : tie.Need-add-n Inv-loop μ-loop
 add-n c = record { fits = next c .1 }
@@ -53,10 +57,13 @@ loop-less c = search needs
 
 loop-again : tie.Need-loop-again Inv-loop μ-loop
 loop-again c =
-    let l = c .before .before .before .loop in
-    let s = c .before .before .before .before .before in (
+    let in-loop = c .before .before in
+    let at-loop = in-loop .before in
+    let start = at-loop .before .before in
+    let l = at-loop .loop in (
       search needs,
-      rw (c .wide .ensures) (high-turn (s .args .s .now) (s .args .at) (s .args .w) (l .i) (l .n) (c .before .before .loop-test .taken) (s .pre .1)) ∙ l .inv .1,
+      rw (c .wide .ensures)
+          (high-turn (start .args .s .now) (start .args .at) (start .args .w) (l .i) (l .n) (in-loop .loop-test .taken) (start .pre .1)) ∙ l .inv .1,
       next c .0,
     )
 

@@ -38,23 +38,33 @@ wide-requires : tie.Need-wide-requires Inv-loop μ-loop
 wide-requires c κs = search needs
 
 byte-lt : (c : tie.After-wide Inv-loop μ-loop) → c .wide .result < 256
-byte-lt c = rw (c .wide .ensures) (omega (arith, c .before .shared-slice-known2 .given (c .before .before .before .before .before .args .at + (c .before .before .before .loop .i - 1))))
+byte-lt c =
+    let after-shared-slice-known2 = c .before in
+    let at-loop = after-shared-slice-known2 .before .before in
+    let start = at-loop .before .before in
+    rw (c .wide .ensures) (omega (arith, after-shared-slice-known2 .shared-slice-known2 .given (start .args .at + (at-loop .loop .i - 1))))
 
 add-n : tie.Need-add-n Inv-loop μ-loop
 add-n c =
-    let l = c .before .before .before .loop in
-    record { fits = low-turn-fits _ _ _ _ (c .before .before .loop-test .taken) (l .inv .0) (c .before .before .before .before .before .pre .0) (l .inv .2) (byte-lt c) }
+    let in-loop = c .before .before in
+    let at-loop = in-loop .before in
+    let start = at-loop .before .before in
+    let l = at-loop .loop in
+    record { fits = low-turn-fits _ _ _ _ (in-loop .loop-test .taken) (l .inv .0) (start .pre .0) (l .inv .2) (byte-lt c) }
 
 loop-less : tie.Need-loop-less Inv-loop μ-loop
 loop-less c = search needs
 
 loop-again : tie.Need-loop-again Inv-loop μ-loop
 loop-again c =
-    let l = c .before .before .before .loop in
-    let a = c .before .before .before .before .before .args in
-    let p = c .before .before .loop-test .taken in (
+    let in-loop = c .before .before in
+    let at-loop = in-loop .before in
+    let start = at-loop .before .before in
+    let l = at-loop .loop in
+    let a = start .args in
+    let p = in-loop .loop-test .taken in (
       search needs,
-      rw (c .wide .ensures) (low-turn (a .s .now) (a .at) (a .w) (l .i) (l .n) p (l .inv .0) (c .before .before .before .before .before .pre .1) (l .inv .1)),
+      rw (c .wide .ensures) (low-turn (a .s .now) (a .at) (a .w) (l .i) (l .n) p (l .inv .0) (start .pre .1) (l .inv .1)),
       low-turn-lt _ _ _ _ p (l .inv .0) (l .inv .2) (byte-lt c),
     )
 

@@ -33,8 +33,10 @@ same-length c = search needs
 
 returns : tie.Need-returns
 returns c =
-    let a = c .before .before .before .before .before .before .before .args in
-    lent-put (now (a .out)) _ (a .o) (take (a .e - a .b) (drop (a .b) (now (a .s)))) (c .before .before .copy .ensures)
+    let after-copy = c .before .before in
+    let start = after-copy .before .before .before .before .before in
+    let a = start .args in
+    lent-put (now (a .out)) _ (a .o) (take (a .e - a .b) (drop (a .b) (now (a .s)))) (after-copy .copy .ensures)
 
 pub paste-spec : {M : Type 1} → statement M
 paste-spec =

@@ -30,11 +30,16 @@ same-length c = search needs
 
 returns : tie.Need-returns
 returns c =
-    let a = c .before .before .before .before .before .before .before .before .before .before .before .before .before .before .before .before .before .args in
-    let low1 = c .before .before .before .before .before .before .before .before .before .before .before .before .before .before .put-low .ensures in
-    let low2 = c .before .before .before .before .before .before .before .before .before .before .put-low2 .ensures in
-    let low3 = c .before .before .before .before .before .before .put-low3 .ensures in
-    let high = c .before .before .put-high .ensures in
+    let after-put-high = c .before .before in
+    let after-put-low3 = after-put-high .before .before .before .before in
+    let after-put-low2 = after-put-low3 .before .before .before .before in
+    let after-put-low = after-put-low2 .before .before .before .before in
+    let start = after-put-low .before .before .before in
+    let a = start .args in
+    let low1 = after-put-low .put-low .ensures in
+    let low2 = after-put-low2 .put-low2 .ensures in
+    let low3 = after-put-low3 .put-low3 .ensures in
+    let high = after-put-high .put-high .ensures in
     rw (high, low3, low2, low1) (guid-written (a .out .now) (a .at) (a .g))
 
 pub put-guid-spec : {M : Type 1} → statement M
