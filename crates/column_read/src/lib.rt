@@ -15,7 +15,6 @@ use column_type::NameRead;
 use column_type::Schema;
 use column_type::TypeId;
 use column_type::TypeRead;
-use column_type::types;
 use wire::ByteRead;
 use wire::Cursor;
 use wire::NumberRead;
@@ -61,7 +60,7 @@ fn read_digits(s: &[u8], at: Cursor, t: TypeId, n: u64) -> ColumnRead
     requires { ⌜ at .at ≤ length (now s) ⌝ }
     ensures { λ r. ⌜ (columnReadTold (now (s .entry)) r ≡ readAt (readDigits (typeTold t) n) (now (s .entry)) (at .at)) × ((p : ℕ) → NamesFrom (now (s .entry)) p r) ⌝ }
 {
-    if types::has_digits(t) {
+    if column_has::has_digits(t) {
         match at.byte(s) {
             ByteRead::Byte(precision, next) => read_scale(s, next, t, n, precision),
             ByteRead::Refused(e) => ColumnRead::Refused(e),
@@ -96,7 +95,7 @@ fn read_collation(s: &[u8], at: Cursor, t: TypeId, n: u64) -> ColumnRead
     requires { ⌜ at .at ≤ length (now s) ⌝ }
     ensures { λ r. ⌜ (columnReadTold (now (s .entry)) r ≡ readAt (readCollation (typeTold t) n) (now (s .entry)) (at .at)) × ((p : ℕ) → NamesFrom (now (s .entry)) p r) ⌝ }
 {
-    if types::has_collation(t) {
+    if column_has::has_collation(t) {
         match at.low(s, Width::Four) {
             NumberRead::Number(info, next) => read_sort(s, next, t, n, info as u32),
             NumberRead::Refused(e) => ColumnRead::Refused(e),
@@ -215,7 +214,7 @@ fn read_type(s: &[u8], at: Cursor, b: u8) -> ColumnRead
     requires { ⌜ at .at ≤ length (now s) ⌝ }
     ensures { λ r. ⌜ (columnReadTold (now (s .entry)) r ≡ readAt (readType b) (now (s .entry)) (at .at)) × NamesFrom (now (s .entry)) (at .at + 2) r ⌝ }
 {
-    match types::type_of(b) {
+    match column_byte::type_of(b) {
         TypeRead::Type(t) => read_fields(s, at, t),
         TypeRead::Unknown => ColumnRead::Refused(Refusal::Unknown),
     }

@@ -10,7 +10,6 @@ use column_type::Column;
 use column_type::Name;
 use column_type::Schema;
 use column_type::TypeId;
-use column_type::types;
 
 fn both(a: bool, b: bool) -> bool
     ensures { λ r. ⌜ r ≡ both a b ⌝ }
@@ -56,7 +55,7 @@ fn length_fits(t: TypeId, n: u64) -> bool
 fn digits_fit(t: TypeId, precision: u8, scale: u8) -> bool
     ensures { λ r. ⌜ r ≡ digitsFit (hasDigits (typeTold t)) precision scale ⌝ }
 {
-    if types::has_digits(t) {
+    if column_has::has_digits(t) {
         true
     } else {
         both(same(precision as u64, 0), same(scale as u64, 0))
@@ -74,7 +73,7 @@ fn collation_numbers(info: u32, sort: u8) -> bool
 fn collation_fits(t: TypeId, c: Collation) -> bool
     ensures { λ r. ⌜ r ≡ collationFits (hasCollation (typeTold t)) (collationTold c) ⌝ }
 {
-    if types::has_collation(t) {
+    if column_has::has_collation(t) {
         match c {
             Collation::None => false,
             Collation::Of(info, sort) => collation_numbers(info, sort),
@@ -93,7 +92,7 @@ fn schema_fits(t: TypeId, n: Schema) -> bool
 {
     match n {
         Schema::None => true,
-        Schema::Names(_, _, _) => types::is_xml(t),
+        Schema::Names(_, _, _) => column_has::is_xml(t),
     }
 }
 

@@ -1,5 +1,4 @@
 // TYPE_INFO, a column's descriptor, both ways: MS-TDS 2.2.5.4 to 2.2.5.6.
-pub mod types;
 
 use wire::Cursor;
 use wire::Refusal;

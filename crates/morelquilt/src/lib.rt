@@ -35,6 +35,7 @@ pub use text::utf16_size;
 
 // TYPE_INFO, a column's descriptor.
 pub use column_read::read_column;
+pub use column_size::column_size;
 pub use column_type::ByteLen;
 pub use column_type::Collation;
 pub use column_type::Column;
@@ -45,14 +46,13 @@ pub use column_type::Name;
 pub use column_type::Schema;
 pub use column_type::TypeId;
 pub use column_type::UShortLen;
-pub use column_write::column_size;
 pub use column_write::write_column;
 
 // One column value.
+pub use untyped_size::untyped_size;
+pub use untyped_write::write_untyped;
 pub use value_kind::Scalar;
 pub use value_kind::Span;
 pub use value_kind::Value;
-pub use value_write::untyped_size;
 pub use value_write::value_size;
-pub use value_write::write_untyped;
 pub use value_write::write_value;

@@ -1,6 +1,4 @@
 // Answers the frames of cases/PROTOCOL.md on standard input, a line for each.
-use replay_column::types;
-use replay_column::values;
 use replay_packet::numbers;
 use replay_packet::packet;
 use replay_packet::texts;
@@ -15,9 +13,9 @@ fn in_room(op: u8, frame: &[u8], room: &mut [u8]) {
     match op {
         0x21 => packet::header_write(frame, room),
         0x22 => packet::prelogin_write(frame, room),
-        0x29 => types::type_write(frame, room),
-        0x31 => values::value_write(frame, room),
-        0x32 => values::untyped_write(frame, room),
+        0x29 => replay_type::type_write(frame, room),
+        0x31 => replay_value::value_write(frame, room),
+        0x32 => replay_value::untyped_write(frame, room),
         0x48 => texts::text_in(frame, room),
         0x49 => texts::text_out(frame, room),
         _ => say::bad(),
@@ -28,7 +26,7 @@ fn in_room(op: u8, frame: &[u8], room: &mut [u8]) {
 fn without_room(op: u8, frame: &[u8]) -> bool {
     match op {
         0x20 => packet::header_read(frame),
-        0x28 => types::type_read(frame),
+        0x28 => replay_type::type_read(frame),
         0x50 => numbers::guid(frame),
         0x51 => numbers::number(frame),
         _ => return false,

@@ -1,6 +1,5 @@
 // The writing pass. It fills the room that it is lent to its last byte, and cannot fail: a caller
 // lends as many bytes as the size pass found. Empty arms are those that the size pass has refused.
-// For this crate alone.
 ghost use mathlib.Core.Path.{_≡_};
 ghost use mathlib.Core.Bool.{true};
 ghost use Prim.Native.Nat.{_+_, _≤_};
@@ -8,9 +7,9 @@ ghost use lib.ListN.{length};
 ghost use lib.Seq.{sets};
 ghost use Rattle.format.specs.Answer.{gives, wrote};
 ghost use Rattle.format.specs.Scalar.{width, kindOf, scalarBytes};
-ghost use Rattle.format.specs.Value.{Given, writeFamily, writeUntyped};
+ghost use Rattle.format.specs.Value.{Given, writeFamily};
 ghost use Rattle.value_kind.specs.Told.{contentKindTold, familyTold, scalarTold, spanTold, valueTold};
-ghost use Rattle.value_kind.specs.Form.{givenOf, encoded, encodedPart, inForm, untypedHead};
+ghost use Rattle.value_kind.specs.Form.{encoded, encodedPart, inForm};
 use value_kind::Scalar;
 use value_kind::Span;
 use value_kind::Value;
@@ -20,7 +19,7 @@ use value_kind::kinds;
 use value_size::content;
 
 // The value's bytes from at.
-fn put_scalar(out: &mut [u8], at: usize, s: Scalar)
+pub fn put_scalar(out: &mut [u8], at: usize, s: Scalar)
     requires { ⌜ at + width (kindOf (scalarTold s)) ≤ length (now out) ⌝ }
     ensures { λ _. ⌜ now (out .exit) ≡ sets (now (out .entry)) at (scalarBytes (scalarTold s)) ⌝ }
 {
@@ -113,7 +112,7 @@ fn fill_form(k: ContentKind, s: &[u8], plp: bool, out: &mut [u8])
 }
 
 // The content of a span of the buffer in its form.
-fn fill_span(k: ContentKind, p: Span, buffer: &[u8], plp: bool, out: &mut [u8])
+pub fn fill_span(k: ContentKind, p: Span, buffer: &[u8], plp: bool, out: &mut [u8])
     requires { ⌜ gives (length (now out)) ≡ wrote (inForm plp (encodedPart (contentKindTold k) (spanTold (now buffer) p))) ⌝ }
     ensures { λ _. ⌜ gives (now (out .exit)) ≡ inForm plp (encodedPart (contentKindTold k) (spanTold (now (buffer .entry)) p)) ⌝ }
 {
@@ -133,61 +132,5 @@ pub fn fill(f: Family, declared: u32, v: Value, buffer: &[u8], out: &mut [u8])
         Value::Scalar(s) => fill_scalar(f, declared, s, out),
         Value::Binary(p) => fill_span(ContentKind::Binary, p, buffer, plp, out),
         Value::String(p) => fill_span(ContentKind::String, p, buffer, plp, out),
-    }
-}
-
-// A value of a fixed width behind its type byte and its length, which is its width.
-fn fill_untyped_scalar(s: Scalar, out: &mut [u8])
-    requires { ⌜ gives (length (now out)) ≡ wrote (writeUntyped (Given.scalar (scalarTold s))) ⌝ }
-    ensures { λ _. ⌜ gives (now (out .exit)) ≡ writeUntyped (Given.scalar (scalarTold s)) ⌝ }
-{
-    let k = kinds::kind_of(s);
-    let n = kinds::bytes_of(k) as u8;
-    wire::inner::put_byte(out, 0, kinds::untyped_byte(k));
-    wire::inner::put_byte(out, 1, n);
-    wire::inner::put_byte(out, 2, n);
-    put_scalar(out, 3, s);
-}
-
-// The descriptor in front of content: type byte, declared length, and a string's collation.
-fn put_head(k: ContentKind, short: bool, out: &mut [u8])
-    requires { ⌜ length (untypedHead (contentKindTold k) short) ≤ length (now out) ⌝ }
-    ensures { λ _. ⌜ now (out .exit) ≡ sets (now (out .entry)) 0 (untypedHead (contentKindTold k) short) ⌝ }
-{
-    let declared = content::untyped_length(short);
-    match k {
-        ContentKind::Binary => {
-            wire::inner::put_byte(out, 0, 0xA5);
-            wire::inner::put_low(out, 1, declared, 2);
-        }
-        ContentKind::String => {
-            wire::inner::put_byte(out, 0, 0xE7);
-            wire::inner::put_low(out, 1, declared, 2);
-            wire::inner::put_low(out, 3, 0, 5);
-        }
-    }
-}
-
-// The content of a span of the buffer behind its own descriptor.
-fn fill_untyped_content(k: ContentKind, p: Span, buffer: &[u8], out: &mut [u8])
-    requires { ⌜ gives (length (now out)) ≡ wrote (writeUntyped (givenOf (contentKindTold k) (spanTold (now buffer) p))) ⌝ }
-    ensures { λ _. ⌜ gives (now (out .exit)) ≡ writeUntyped (givenOf (contentKindTold k) (spanTold (now (buffer .entry)) p)) ⌝ }
-{
-    let short = content::is_short(k, p.count);
-    put_head(k, short, out);
-    let head = content::untyped_head(k) as usize;
-    fill_span(k, p, buffer, !short, &mut out[head..]);
-}
-
-// A value behind its own descriptor.
-pub fn fill_untyped(v: Value, buffer: &[u8], out: &mut [u8])
-    requires { ⌜ gives (length (now out)) ≡ wrote (writeUntyped (valueTold (now buffer) v)) ⌝ }
-    ensures { λ _. ⌜ gives (now (out .exit)) ≡ writeUntyped (valueTold (now (buffer .entry)) v) ⌝ }
-{
-    match v {
-        Value::Null => wire::inner::put_byte(out, 0, 0x1F),
-        Value::Scalar(s) => fill_untyped_scalar(s, out),
-        Value::Binary(p) => fill_untyped_content(ContentKind::Binary, p, buffer, out),
-        Value::String(p) => fill_untyped_content(ContentKind::String, p, buffer, out),
     }
 }

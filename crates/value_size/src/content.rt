@@ -1,18 +1,16 @@
 // Binary and string content along one path, with and without a type: within a bound, in the short
 // or the PLP form, behind a head.
 ghost use mathlib.Core.Path.{_≡_};
-ghost use mathlib.Core.Bool.{Bool};
 ghost use mathlib.Core.List.{List};
 ghost use Prim.Native.Nat.{ℕ, _<_};
-ghost use lib.Dec.{leb, eqb};
+ghost use lib.Dec.{eqb};
 ghost use lib.ListN.{length};
-ghost use Rattle.lists.specs.Pick.{pick};
 ghost use Rattle.format.specs.Answer.{andThen, wrote};
 ghost use Rattle.format.specs.Plp.{plpMark};
-ghost use Rattle.format.specs.Value.{contentBound, writeFamily, untypedLength, writeUntyped};
+ghost use Rattle.format.specs.Value.{contentBound, writeFamily};
 ghost use Rattle.wire.specs.Told.{wroteTold};
 ghost use Rattle.value_kind.specs.Told.{contentKindTold, familyTold, spanTold};
-ghost use Rattle.value_kind.specs.Form.{givenOf, encoded, encodedPart, formed, framed, shortUpTo, untypedHead, untypedLimit};
+ghost use Rattle.value_kind.specs.Form.{givenOf, encoded, encodedPart, formed, framed};
 use value_kind::Span;
 use value_kind::family;
 use value_kind::family::ContentKind;
@@ -60,7 +58,7 @@ fn framed(k: ContentKind, s: &[u8], head: u8, plp: bool, bound: u32) -> Wrote
 }
 
 // The same of a span, which must lie in the buffer.
-fn framed_span(k: ContentKind, p: Span, buffer: &[u8], head: u8, plp: bool, bound: u32) -> Wrote
+pub fn framed_span(k: ContentKind, p: Span, buffer: &[u8], head: u8, plp: bool, bound: u32) -> Wrote
     ensures { λ r. ⌜ ((h : List ℕ) → length h ≡ head → wroteTold r ≡ wrote (andThen (encodedPart (contentKindTold k) (spanTold (now (buffer .entry)) p)) (framed h plp bound))) ⌝ }
 {
     let start = p.start;
@@ -106,61 +104,4 @@ pub fn content(f: Family, declared: u32, k: ContentKind, p: Span, buffer: &[u8])
         }
         Family::NotCarried => Wrote::Refused(Refusal::NotCarried),
     }
-}
-
-fn at_most(count: usize, limit: usize) -> bool
-    ensures { λ r. ⌜ r ≡ leb count limit ⌝ }
-{
-    if limit < count {
-        return false;
-    }
-    true
-}
-
-// Is content of so many bytes, as they were lent, written in the short form without a type?
-pub fn is_short(k: ContentKind, count: usize) -> bool
-    ensures { λ r. ⌜ r ≡ leb count (shortUpTo (contentKindTold k)) ⌝ }
-{
-    match k {
-        ContentKind::Binary => at_most(count, 8000),
-        ContentKind::String => at_most(count, 4000),
-    }
-}
-
-// The length that content without a type declares.
-pub fn untyped_length(short: bool) -> u64
-    ensures { λ r. ⌜ r ≡ pick short untypedLength plpMark ⌝ }
-{
-    if short {
-        return 8000;
-    }
-    65535
-}
-
-// How many bytes of descriptor stand in front of content without a type.
-pub fn untyped_head(k: ContentKind) -> u8
-    ensures { λ r. ⌜ ((short : Bool) → r ≡ length (untypedHead (contentKindTold k) short)) ⌝ }
-{
-    match k {
-        ContentKind::Binary => 3,
-        ContentKind::String => 8,
-    }
-}
-
-// The bound of content that is written with its own descriptor.
-fn untyped_limit(short: bool) -> u32
-    ensures { λ r. ⌜ r ≡ untypedLimit short ⌝ }
-{
-    if short {
-        return 8000;
-    }
-    2147483647
-}
-
-// Content with its own descriptor in front: the form goes by the bytes as they were lent.
-pub fn untyped_content(k: ContentKind, p: Span, buffer: &[u8]) -> Wrote
-    ensures { λ r. ⌜ wroteTold r ≡ wrote (writeUntyped (givenOf (contentKindTold k) (spanTold (now (buffer .entry)) p))) ⌝ }
-{
-    let short = is_short(k, p.count);
-    framed_span(k, p, buffer, untyped_head(k), !short, untyped_limit(short))
 }

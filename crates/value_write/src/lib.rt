@@ -3,7 +3,7 @@
 ghost use mathlib.Core.Path.{_≡_};
 ghost use lib.ListN.{length};
 ghost use Rattle.format.specs.Answer.{fitted, wrote, roomAfter};
-ghost use Rattle.format.specs.Value.{writeFamily, writeValue, writeUntyped};
+ghost use Rattle.format.specs.Value.{writeFamily, writeValue};
 ghost use Rattle.wire.specs.Told.{wroteTold};
 ghost use Rattle.column_type.specs.Told.{columnTold};
 ghost use Rattle.value_kind.specs.Told.{familyTold, valueTold};
@@ -11,10 +11,7 @@ use column_type::Column;
 use value_fill::inner;
 use value_kind::Value;
 use value_kind::family;
-use value_kind::family::ContentKind;
 use value_kind::family::Family;
-use value_kind::kinds;
-use value_size::content;
 use value_size::size;
 use wire::Refusal;
 use wire::Wrote;
@@ -59,34 +56,4 @@ pub fn write_value(c: Column, v: Value, buffer: &[u8], out: &mut [u8]) -> Wrote
         return write_in(family::family_of(ty), c.length as u32, v, buffer, out);
     }
     Wrote::Refused(Refusal::Rule)
-}
-
-// How many bytes the value takes with its own descriptor in front, or why it cannot be written.
-pub fn untyped_size(v: Value, buffer: &[u8]) -> Wrote
-    ensures { λ r. ⌜ wroteTold r ≡ wrote (writeUntyped (valueTold (now (buffer .entry)) v)) ⌝ }
-{
-    match v {
-        Value::Null => Wrote::Bytes(1),
-        Value::Scalar(s) => Wrote::Bytes(3 + kinds::bytes_of(kinds::kind_of(s))),
-        Value::Binary(p) => content::untyped_content(ContentKind::Binary, p, buffer),
-        Value::String(p) => content::untyped_content(ContentKind::String, p, buffer),
-    }
-}
-
-// The value with its own descriptor in front, at the front of the room.
-pub fn write_untyped(v: Value, buffer: &[u8], out: &mut [u8]) -> Wrote
-    ensures answer { λ r. ⌜ wroteTold r ≡ wrote (fitted (writeUntyped (valueTold (now (buffer .entry)) v)) (length (now (out .entry)))) ⌝ }
-    ensures room { λ _. ⌜ now (out .exit) ≡ roomAfter (fitted (writeUntyped (valueTold (now (buffer .entry)) v)) (length (now (out .entry)))) (now (out .entry)) ⌝ }
-{
-    let needed = untyped_size(v, buffer);
-    match needed {
-        Wrote::Bytes(m) => {
-            if out.len() < m {
-                return Wrote::Refused(Refusal::Room);
-            }
-            inner::fill_untyped(v, buffer, &mut out[..m]);
-            Wrote::Bytes(m)
-        }
-        Wrote::Refused(e) => Wrote::Refused(e),
-    }
 }

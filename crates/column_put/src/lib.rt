@@ -1,0 +1,2 @@
+// The writing pass of a descriptor.
+pub mod inner;

@@ -1,3 +1,0 @@
-// replay_column
-pub mod types;
-pub mod values;

@@ -1,0 +1,105 @@
+-- `untyped_write::inner::fill_untyped_scalar` meets its contract: the stores are one run, type byte, length, count and value. Assumes nothing.
+use mathlib.Core.Path.{ap, _∙_}
+use native.Mathlib.Omega.{arith}
+use mathlib.Core.List.{_∷_}
+use Rattle.format.specs.Descriptor.{byteLenByte}
+use Rattle.format.specs.Scalar.{width, kindOf, scalarBytes}
+use Rattle.format.specs.Value.{untypedType}
+use Rattle.value_kind.specs.Told.{kindTold, scalarTold}
+use Rattle.value_kind.proofs.FillLaws.{count-is, filled}
+use Rattle.value_kind.proofs.ScalarLaws.{length-bytes, width-most, untyped-bytes}
+use borrow.Author.Needs.{needs}
+use Rattle.untyped_write.proofs.inner.fill_untyped_scalar.Statement.{statement}
+use Rattle.untyped_write.proofs.inner.fill_untyped_scalar.Tie as tie
+
+kind-of-requires : tie.Need-kind-of-requires
+kind-of-requires c κs = search needs
+
+bytes-of-requires : tie.Need-bytes-of-requires
+bytes-of-requires c κs = search needs
+
+cast-n : tie.Need-cast-n
+cast-n c = record { fits = omega (arith, c .bytes-of .ensures, width-most (kindTold (c .before .kind-of .result))) }
+
+untyped-byte-requires : tie.Need-untyped-byte-requires
+untyped-byte-requires c κs = search needs
+
+put-byte-requires : tie.Need-put-byte-requires
+put-byte-requires c κs =
+    let start = c .before .before .before .before .before in
+    let v = scalarTold (start .args .s) in
+    let n =
+    count-is _ _ (byteLenByte (untypedType (kindOf v)) ∷ width (kindOf v) ∷ width (kindOf v) ∷ scalarBytes v) (start .pre)
+    (untyped-bytes (start .args .s)) in
+    omega (arith, n)
+
+put-byte-requires-2 : tie.Need-put-byte-requires-2
+put-byte-requires-2 c κs =
+    let after-put-byte = c .before .before .before in
+    let start = after-put-byte .before .before .before .before .before .before in
+    let v = scalarTold (start .args .s) in
+    let n =
+    count-is _ _ (byteLenByte (untypedType (kindOf v)) ∷ width (kindOf v) ∷ width (kindOf v) ∷ scalarBytes v) (start .pre)
+    (untyped-bytes (start .args .s)) in
+    omega (arith, n, after-put-byte .put-byte .kept .0)
+
+put-byte-requires-3 : tie.Need-put-byte-requires-3
+put-byte-requires-3 c κs =
+    let after-put-byte2 = c .before .before .before in
+    let after-put-byte = after-put-byte2 .before .before .before .before in
+    let start = after-put-byte .before .before .before .before .before .before in
+    let v = scalarTold (start .args .s) in
+    let n =
+    count-is _ _ (byteLenByte (untypedType (kindOf v)) ∷ width (kindOf v) ∷ width (kindOf v) ∷ scalarBytes v) (start .pre)
+    (untyped-bytes (start .args .s)) in
+    omega (arith, n, after-put-byte .put-byte .kept .0, after-put-byte2 .put-byte2 .kept .0)
+
+put-scalar-requires : tie.Need-put-scalar-requires
+put-scalar-requires c κs =
+    let after-put-byte3 = c .before .before .before in
+    let after-put-byte2 = after-put-byte3 .before .before .before .before in
+    let after-put-byte = after-put-byte2 .before .before .before .before in
+    let start = after-put-byte .before .before .before .before .before .before in
+    let v = scalarTold (start .args .s) in
+    let n =
+    count-is _ _ (byteLenByte (untypedType (kindOf v)) ∷ width (kindOf v) ∷ width (kindOf v) ∷ scalarBytes v) (start .pre)
+    (untyped-bytes (start .args .s)) in
+    omega (arith, n, length-bytes (start .args .s), after-put-byte .put-byte .kept .0, after-put-byte2 .put-byte2 .kept .0, after-put-byte3 .put-byte3 .kept .0)
+
+same-length : tie.Need-same-length
+same-length c = search needs
+
+returns : tie.Need-returns
+returns c =
+    let after-put-scalar = c .before .before in
+    let after-put-byte3 = after-put-scalar .before .before .before .before in
+    let after-put-byte2 = after-put-byte3 .before .before .before .before in
+    let after-put-byte = after-put-byte2 .before .before .before .before in
+    let after-untyped-byte = after-put-byte .before in
+    let after-bytes-of = after-untyped-byte .before .before in
+    let after-kind-of = after-bytes-of .before in
+    let start = after-kind-of .before .before in
+    let v = scalarTold (start .args .s) in
+    let n =
+    count-is _ _ (byteLenByte (untypedType (kindOf v)) ∷ width (kindOf v) ∷ width (kindOf v) ∷ scalarBytes v) (start .pre)
+    (untyped-bytes (start .args .s)) in
+    let w = after-bytes-of .bytes-of .ensures ∙ ap width (after-kind-of .kind-of .ensures) in
+    let t = after-untyped-byte .untyped-byte .ensures ∙ ap (λ k. byteLenByte (untypedType k)) (after-kind-of .kind-of .ensures) in
+    filled _ (start .args .out .now) _ _ (start .pre) (untyped-bytes (start .args .s))
+    (rw
+    (after-put-scalar .put-scalar .ensures, after-put-byte3 .put-byte3 .ensures, after-put-byte2 .put-byte2 .ensures, after-put-byte .put-byte .ensures, w, t))
+
+pub fill-untyped-scalar-spec : {M : Type 1} → statement M
+fill-untyped-scalar-spec =
+    tie.close
+    (tie.spec
+    kind-of-requires
+    bytes-of-requires
+    cast-n
+    untyped-byte-requires
+    put-byte-requires
+    put-byte-requires-2
+    put-byte-requires-3
+    put-scalar-requires
+    same-length
+    returns)
