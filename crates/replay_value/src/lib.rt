@@ -1,4 +1,7 @@
 // value_write, untyped_write, and a value's 17 bytes in a frame.
+use bits::float;
+use bits::float::Float32;
+use bits::float::Float64;
 use replay_say::fields;
 use replay_say::say;
 use value_kind::Scalar;
@@ -8,9 +11,6 @@ use wire::Cursor;
 use wire::Guid;
 use wire::NumberRead;
 use wire::Width;
-use wire::float;
-use wire::float::Float32;
-use wire::float::Float64;
 
 fn high(frame: &[u8], at: usize) -> u64 {
     match (Cursor { at }).high(frame, Width::Eight) {
@@ -45,9 +45,9 @@ fn number(kind: u8, n: u64) -> Scalar {
     match kind {
         1 => Scalar::Bit(n != 0),
         2 => Scalar::U8((n % 256) as u8),
-        3 => Scalar::I16(wire::signed::to_i16((n % 65536) as u16)),
-        4 => Scalar::I32(wire::signed::to_i32((n % 4294967296) as u32)),
-        5 => Scalar::I64(wire::signed::to_i64(n)),
+        3 => Scalar::I16(bits::signed::to_i16((n % 65536) as u16)),
+        4 => Scalar::I32(bits::signed::to_i32((n % 4294967296) as u32)),
+        5 => Scalar::I64(bits::signed::to_i64(n)),
         6 => float32((n % 4294967296) as u32),
         _ => float64(n),
     }

@@ -7,8 +7,8 @@ ghost use Rattle.format.specs.Scalar.{width, kindOf, place, sameKind, isOneOf};
 ghost use Rattle.format.specs.Value.{untypedType};
 ghost use Rattle.value_kind.specs.Told.{kindTold, listedTold, scalarTold, numberOf};
 use crate::Scalar;
-use wire::float::Float32;
-use wire::float::Float64;
+use bits::float::Float32;
+use bits::float::Float64;
 
 pub enum Kind {
     Bit,
@@ -161,12 +161,12 @@ pub fn number_of(s: Scalar) -> u64
     match s {
         Scalar::Bit(b) => bit_number(b),
         Scalar::U8(n) => n as u64,
-        Scalar::I16(z) => wire::signed::of_i16(z) as u64,
-        Scalar::I32(z) => wire::signed::of_i32(z) as u64,
-        Scalar::I64(z) => wire::signed::of_i64(z),
-        Scalar::F32(x) => wire::float::to_bits32(Float32::Value(x)) as u64,
+        Scalar::I16(z) => bits::signed::of_i16(z) as u64,
+        Scalar::I32(z) => bits::signed::of_i32(z) as u64,
+        Scalar::I64(z) => bits::signed::of_i64(z),
+        Scalar::F32(x) => bits::float::to_bits32(Float32::Value(x)) as u64,
         Scalar::F32Nan(n) => n as u64,
-        Scalar::F64(x) => wire::float::to_bits64(Float64::Value(x)),
+        Scalar::F64(x) => bits::float::to_bits64(Float64::Value(x)),
         Scalar::F64Nan(n) => n,
         Scalar::Guid(_) => 0,
     }

@@ -2,7 +2,6 @@
 use Prim.Native.Nat.{ℕ, _<_}
 use mathlib.Core.List.{List, _++_}
 use lib.ListN.{take, drop}
-use lib.Ieee.{binary32, binary64, nanBits, ofBits, toBits}
 use Rattle.lists.specs.Pick.{pick}
 use Rattle.format.specs.Answer.{Answer, gives, refuses, Read, took, stops, mapRead}
 use Rattle.format.specs.Answer as A
@@ -21,10 +20,6 @@ use Rattle.wire.specs.declared.NumberRead.the-variants as N
 use Rattle.wire.specs.declared.Guid.{Guid}
 use Rattle.wire.specs.declared.GuidRead.{GuidRead}
 use Rattle.wire.specs.declared.GuidRead.the-variants as G
-use Rattle.wire.specs.declared.float.Float32.{Float32}
-use Rattle.wire.specs.declared.float.Float32.the-variants as F32
-use Rattle.wire.specs.declared.float.Float64.{Float64}
-use Rattle.wire.specs.declared.float.Float64.the-variants as F64
 
 -- the refusals, by document 01's table
 abbrev pub refusalTold : Refusal → A.Refusal
@@ -82,19 +77,3 @@ readGuid s = mapRead guidText (readBytes 16 s)
 
 unfoldable pub writeGuid : Guid → Answer (List ℕ)
 writeGuid g = gives (guidWire g)
-
--- ---- floats: a pattern that is no NaN's is its value, and a NaN's pattern is itself; `toBits` gives the quiet NaN at a NaN
-
-abbrev pub float32Of : ℕ → Float32
-float32Of n = pick (nanBits binary32 n) (F32.Nan n) (F32.Value (ofBits binary32 n))
-
-abbrev pub float32Bits : Float32 → ℕ
-float32Bits (F32.Value x) = toBits binary32 x
-float32Bits (F32.Nan n) = n
-
-abbrev pub float64Of : ℕ → Float64
-float64Of n = pick (nanBits binary64 n) (F64.Nan n) (F64.Value (ofBits binary64 n))
-
-abbrev pub float64Bits : Float64 → ℕ
-float64Bits (F64.Value x) = toBits binary64 x
-float64Bits (F64.Nan n) = n

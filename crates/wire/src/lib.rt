@@ -1,8 +1,6 @@
-// What every layer reads and writes with: the refusals, the cursor, numbers over the width, the
-// GUID's two orders, two's complement and floats as their bits.
-pub mod float;
+// What every layer reads and writes with: the refusals, the cursor, numbers over the width, and the
+// GUID's two orders.
 pub mod inner;
-pub mod signed;
 
 ghost use mathlib.Core.Path.{_≡_};
 ghost use Prim.Native.Nat.{_+_, _^_};

@@ -1,9 +1,9 @@
--- `wire::float::to_bits64` meets its contract. Assumes nothing.
+-- `bits::float::to_bits64` meets its contract. Assumes nothing.
 use lib.Ieee.{toBits}
-use Rattle.wire.proofs.Floats.{itself, not-itself}
+use Rattle.bits.proofs.Floats.{itself, not-itself}
 use borrow.Author.Needs.{needs}
-use Rattle.wire.proofs.float.to_bits64.Statement.{statement}
-use Rattle.wire.proofs.float.to_bits64.Tie as tie
+use Rattle.bits.proofs.float.to_bits64.Statement.{statement}
+use Rattle.bits.proofs.float.to_bits64.Tie as tie
 
 enum-known-x : tie.Need-enum-known-x
 enum-known-x c = search needs

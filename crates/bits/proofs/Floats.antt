@@ -7,7 +7,7 @@ use lib.Dec.{T}
 use lib.Ieee.{Format, binary32, binary64, Float, nan, inf, fin, ones, hid, top, ne, isNan, nanBits, ofBits}
 use lib.Ieee.Bits.{nanBits-above, nanBits-is, toBits-ofBits}
 use lib.Ieee.Compare.{differs-from-itself, nan-differs}
-use Rattle.wire.specs.Told.{float32Of, float32Bits, float64Of, float64Bits}
+use Rattle.bits.specs.Told.{float32Of, float32Bits, float64Of, float64Bits}
 use borrow.Author.Tests.{lt-ltb, le-ltb}
 
 -- the code's test, with the sign's bit taken off

@@ -1,9 +1,9 @@
--- `wire::signed::of_i64` meets its contract, by the laws at 64 bits. Assumes nothing.
+-- `bits::signed::of_i64` meets its contract, by the laws at 64 bits. Assumes nothing.
 use mathlib.Core.Path.{_∙_}
 use mir.Syntax.{w64}
-use Rattle.wire.proofs.Complement.{neg-sub, neg-cast, neg-le, neg-is, pos-way, unsigned-is}
-use Rattle.wire.proofs.signed.of_i64.Statement.{statement}
-use Rattle.wire.proofs.signed.of_i64.Tie as tie
+use Rattle.bits.proofs.Complement.{neg-sub, neg-cast, neg-le, neg-is, pos-way, unsigned-is}
+use Rattle.bits.proofs.signed.of_i64.Statement.{statement}
+use Rattle.bits.proofs.signed.of_i64.Tie as tie
 
 sub-result : tie.Need-sub-result
 sub-result c = neg-sub w64 (c .before .args .z) (c .before .fits .z) (c .if1 .taken)

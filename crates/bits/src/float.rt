@@ -1,7 +1,7 @@
 // Floats as their bits. The logic has one NaN with no payload, and a row may carry any bits, so a
 // NaN's pattern is a case of its own.
 ghost use mathlib.Core.Path.{_≡_};
-ghost use Rattle.wire.specs.Told.{float32Of, float32Bits, float64Of, float64Bits};
+ghost use Rattle.bits.specs.Told.{float32Of, float32Bits, float64Of, float64Bits};
 
 pub enum Float32 {
     Value(f32),

@@ -1,8 +1,8 @@
--- `wire::float::from_bits32` meets its contract. Assumes nothing.
+-- `bits::float::from_bits32` meets its contract. Assumes nothing.
 use lib.Ieee.{binary32}
-use Rattle.wire.proofs.Floats.{nan-yes, nan-no, no-nan}
-use Rattle.wire.proofs.float.from_bits32.Statement.{statement}
-use Rattle.wire.proofs.float.from_bits32.Tie as tie
+use Rattle.bits.proofs.Floats.{nan-yes, nan-no, no-nan}
+use Rattle.bits.proofs.float.from_bits32.Statement.{statement}
+use Rattle.bits.proofs.float.from_bits32.Tie as tie
 
 float-from-bits-t5 : tie.Need-float-from-bits-t5
 float-from-bits-t5 c = no-nan binary32 (c .before .args .n) (c .if1 .left)

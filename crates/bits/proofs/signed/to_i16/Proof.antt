@@ -1,10 +1,10 @@
--- `wire::signed::to_i16` meets its contract, by the laws at 16 bits. Assumes nothing.
+-- `bits::signed::to_i16` meets its contract, by the laws at 16 bits. Assumes nothing.
 use mathlib.Core.Path.{_∙_}
 use mir.Syntax.{w16}
-use Rattle.wire.proofs.Complement.{up-sub, up-is, signed-is}
+use Rattle.bits.proofs.Complement.{up-sub, up-is, signed-is}
 use borrow.Author.Needs.{needs}
-use Rattle.wire.proofs.signed.to_i16.Statement.{statement}
-use Rattle.wire.proofs.signed.to_i16.Tie as tie
+use Rattle.bits.proofs.signed.to_i16.Statement.{statement}
+use Rattle.bits.proofs.signed.to_i16.Tie as tie
 
 cast-result : tie.Need-cast-result
 cast-result c = search needs

@@ -1,0 +1,3 @@
+// Numbers as their bits: two's complement, and floats.
+pub mod float;
+pub mod signed;
