@@ -1,4 +1,4 @@
--- TYPE_INFO both ways: document 01, "TYPE_INFO"; MS-TDS 2.2.5.4 to 2.2.5.6.
+-- TYPE_INFO both ways: document 01, "TYPE_INFO"; MS-TDS, "Data Type Definitions" and the rule TYPE_INFO.
 use Prim.Native.Nat.{ℕ, _+_, _*_, _/_, _%_, _^_}
 use mathlib.Core.List.{List, [], _∷_, _++_}
 use mathlib.Core.Bool.{Bool, true, false, not}

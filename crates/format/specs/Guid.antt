@@ -1,4 +1,4 @@
--- GUID: MS-TDS 2.2.5.5.1.2 and document 01, "Values under a type".
+-- GUID: document 01, "Values under a type"; MS-TDS, "GUID".
 use Prim.Native.Nat.{ℕ}
 use mathlib.Core.List.{List, _++_, reverse}
 use lib.ListN.{take, drop}

@@ -1,4 +1,4 @@
--- The packet header: document 01, "Header and prelogin"; MS-TDS 2.2.3.1.
+-- The packet header: document 01, "Header and prelogin"; MS-TDS, "Packet Header".
 use Prim.Native.Nat.{ℕ}
 use mathlib.Core.List.{List, [], _∷_, _++_}
 use mathlib.Core.Bool.{Bool, true, false, not}

@@ -1,4 +1,4 @@
--- Numbers as bytes, over the width. MS-TDS 2.2.5.1.1: BYTE, USHORT, LONG, ULONGLONG; little-endian unless said otherwise.
+-- Numbers as bytes, over the width. MS-TDS, "General Rules": BYTE, USHORT, LONG, ULONGLONG; little-endian unless said otherwise.
 use Prim.Native.Nat.{ℕ, zero, suc, _+_, _*_, _-_, _/_, _%_, _^_}
 use mathlib.Core.List.{List, [], _∷_, _++_}
 use lib.ListN.{length, take}

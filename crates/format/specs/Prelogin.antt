@@ -1,4 +1,4 @@
--- The prelogin message, writing: document 01, "Header and prelogin"; MS-TDS 2.2.6.5.
+-- The prelogin message, writing: document 01, "Header and prelogin"; MS-TDS, "PRELOGIN".
 use Prim.Native.Nat.{ℕ, _+_, _*_}
 use mathlib.Core.List.{List, [], _∷_, _++_}
 use mathlib.Core.Bool.{Bool}

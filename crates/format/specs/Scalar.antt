@@ -1,4 +1,4 @@
--- The values of a fixed width: their kinds, their bytes, and back. Document 01, "Values under a type"; MS-TDS 2.2.5.5.1.
+-- The values of a fixed width: their kinds, their bytes, and back. Document 01, "Values under a type"; MS-TDS, "System Data Type Values".
 use Prim.Native.Nat.{ℕ}
 use mathlib.Core.List.{List, [], _∷_}
 use mathlib.Core.Bool.{Bool, true, false, not}

@@ -1,4 +1,4 @@
--- Column values both ways: document 01, "Values under a type"; MS-TDS 2.2.5.5.
+-- Column values both ways: document 01, "Values under a type"; MS-TDS, the rule TYPE_VARBYTE.
 use Prim.Native.Nat.{ℕ}
 use mathlib.Core.List.{List, [], _∷_, _++_}
 use mathlib.Core.Bool.{Bool, true, false, not}
