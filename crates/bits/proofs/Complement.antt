@@ -12,6 +12,7 @@ use lib.Signed.{mag, ltZ, nonNeg}
 use borrow.Author.Tests.{le-ltb, ltb-true}
 use mir.Syntax.{Width, w8, w16, w32, w64, w128}
 use mir.Val.{Fits, SFits, bits, hbits, toZ, ofZ, sel}
+use Rattle.lists.proofs.Split.{clash}
 use Rattle.lists.specs.Pick.{pick}
 use Rattle.format.specs.Number.{signed, unsigned}
 use mir.Facts.{toZ-ofZ, toZ-pos}
@@ -64,7 +65,7 @@ module _ (w : Width) (z : ℤ) (f : SFits w z) (h : ltZ (toZ w (ofZ w z)) (pos 0
 -- the bits of a number that is not negative: z as unsigned
 pos-both : (w : Width) (z : ℤ) → SFits w z → ltZ z (pos 0) ≡ false → (T (nonNeg z) × Fits w (natAbs z)) × (natAbs z ≡ ofZ w z)
 pos-both w (pos n) f h = ((tt, record { fits = omega (arith, half w, f .sfits) }), refl)
-pos-both w (negsuc k) f h = let z : _≡_ {A = ℕ} 0 1 = cc in absurd (omega arith)
+pos-both w (negsuc k) f h = clash cc
 
 pub pos-way : (w : Width) (z : ℤ) → SFits w z → ltZ (toZ w (ofZ w z)) (pos 0) ≡ false
     → (T (nonNeg (toZ w (ofZ w z))) × Fits w (natAbs (toZ w (ofZ w z)))) × (natAbs (toZ w (ofZ w z)) ≡ ofZ w z)

@@ -7,6 +7,7 @@ use mathlib.Core.Option.{Option, none, some}
 use Prim.Native.Nat.{ℕ, _+_, _*_}
 use native.Mathlib.Omega.{arith}
 use lib.ListN.{length}
+use Rattle.lists.proofs.Split.{clash}
 use Rattle.format.specs.Answer.{readAt, inside}
 use Rattle.format.specs.Descriptor as D
 use Rattle.format.specs.Descriptor.{readColumn}
@@ -183,8 +184,8 @@ module _ (s : List ℕ) where
 
   same-schema : (place : ℕ) (x y : Schema) → SchemaFrom s place x → SchemaFrom s place y → schemaTold s x ≡ schemaTold s y → x ≡ y
   same-schema place S.None S.None h i e = refl
-  same-schema place S.None (S.Names a b c) h i e = let z : _≡_ {A = ℕ} 0 1 = cc in absurd (omega arith)
-  same-schema place (S.Names a b c) S.None h i e = let z : _≡_ {A = ℕ} 0 1 = cc in absurd (omega arith)
+  same-schema place S.None (S.Names a b c) h i e = clash cc
+  same-schema place (S.Names a b c) S.None h i e = clash cc
   same-schema place (S.Names a b c) (S.Names d f g) h i e =
       let w = one-schema e in
       let x : nameTold s a ≡ nameTold s d = ap (λ (k : D.Schema). k .database) w in
@@ -220,8 +221,8 @@ same-read s place (CR.Column c n) (CR.Column d m) h i e =
     let p : columnTold s c ≡ columnTold s d = cc in
     let q : n .at ≡ m .at = cc in
     rw (same-column s place c d h i p, same-cursor n m q)
-same-read s place (CR.Column c n) (CR.Refused f) h i e = let z : _≡_ {A = ℕ} 0 1 = cc in absurd (omega arith)
-same-read s place (CR.Refused f) (CR.Column c n) h i e = let z : _≡_ {A = ℕ} 0 1 = cc in absurd (omega arith)
+same-read s place (CR.Column c n) (CR.Refused f) h i e = clash cc
+same-read s place (CR.Refused f) (CR.Column c n) h i e = clash cc
 same-read s place (CR.Refused f) (CR.Refused g) h i e =
     let p : refusalTold f ≡ refusalTold g = cc in
     ap CR.Refused (decided refusalTold refusalBack refusal-undoes f g (refusalTold g) p refl)

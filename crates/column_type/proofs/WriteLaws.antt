@@ -10,6 +10,7 @@ use lib.ListN.{length, take, drop, length-append}
 use lib.Seq.{sets, length-sets}
 use lib.Dec.{ltb, lit≤}
 use borrow.Author.Tests.{ltb-true, ltb-false}
+use Rattle.lists.proofs.Split.{clash}
 use Rattle.format.specs.Answer.{Answer, gives, refuses, rule, notCarried, wrote}
 use Rattle.format.specs.Number.{lowBytes}
 use Rattle.format.specs.Descriptor as D
@@ -33,7 +34,7 @@ fits-name : (s : List ℕ) (n : Name) (w : ℕ) → nameFits w (nameTold s n) �
 fits-name s n w h = go (ltb (length s) (n .start + 2 * n .units)) refl
   where
     go : (b : Bool) → ltb (length s) (n .start + 2 * n .units) ≡ b → NameIn s n × (n .units < 256 ^ w)
-    go true t = let z : true ≡ false = sym h ∙ sym (name-leaves s n w (ltb-true _ _ t)) in let y : _≡_ {A = ℕ} 0 1 = cc in absurd (omega arith)
+    go true t = let z : true ≡ false = sym h ∙ sym (name-leaves s n w (ltb-true _ _ t)) in clash cc
     go false t = let i : NameIn s n = ltb-false (length s) (n .start + 2 * n .units) t in (i, ltb-true (n .units) (256 ^ w) (name-lies s n w i ∙ h))
 
 -- three names that fit: each lies in the buffer, and its count fits its field
@@ -80,19 +81,19 @@ not-xml (D.byteLen t) n h = refl
 not-xml (D.uShortLen t) n h = refl
 not-xml (D.longLen t) n h = refl
 not-xml D.daten n h = refl
-not-xml D.xml n h = let z : _≡_ {A = ℕ} 0 1 = cc in absurd (omega arith)
+not-xml D.xml n h = clash cc
 not-xml D.udt n h = refl
 not-xml D.ssVariant n h = refl
 
 pub is-xml : (t : D.TypeId) → isXml t ≡ true → t ≡ D.xml
-is-xml (D.fixedLen t) h = let z : _≡_ {A = ℕ} 0 1 = cc in absurd (omega arith)
-is-xml (D.byteLen t) h = let z : _≡_ {A = ℕ} 0 1 = cc in absurd (omega arith)
-is-xml (D.uShortLen t) h = let z : _≡_ {A = ℕ} 0 1 = cc in absurd (omega arith)
-is-xml (D.longLen t) h = let z : _≡_ {A = ℕ} 0 1 = cc in absurd (omega arith)
-is-xml D.daten h = let z : _≡_ {A = ℕ} 0 1 = cc in absurd (omega arith)
+is-xml (D.fixedLen t) h = clash cc
+is-xml (D.byteLen t) h = clash cc
+is-xml (D.uShortLen t) h = clash cc
+is-xml (D.longLen t) h = clash cc
+is-xml D.daten h = clash cc
 is-xml D.xml h = refl
-is-xml D.udt h = let z : _≡_ {A = ℕ} 0 1 = cc in absurd (omega arith)
-is-xml D.ssVariant h = let z : _≡_ {A = ℕ} 0 1 = cc in absurd (omega arith)
+is-xml D.udt h = clash cc
+is-xml D.ssVariant h = clash cc
 
 pub length-width : (t : D.TypeId) → lengthWidth t ≤ 4
 length-width (D.fixedLen t) = lit≤ tt

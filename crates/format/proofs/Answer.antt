@@ -2,18 +2,17 @@
 -- Assumes nothing.
 use mathlib.Core.Path.{_≡_, refl}
 use mathlib.Core.Bool.{Bool, true, false}
-use Prim.Native.Nat.{ℕ}
-use native.Mathlib.Omega.{arith}
+use Rattle.lists.proofs.Split.{clash}
 use Rattle.format.specs.Answer.{Refusal, Answer, gives, refuses, refuseIf, andThen}
 
 -- a test does not say both
 pub no-truth : {P : Type 0} → false ≡ true → P
-no-truth h = let z : _≡_ {A = ℕ} 0 1 = cc in absurd (omega arith)
+no-truth h = clash cc
 
 module _ {A : Type 0} where
   -- a refusal gives nothing
   pub no-gives : {P : Type 0} (e : Refusal) (x : A) → refuses e ≡ gives x → P
-  no-gives e x h = let z : _≡_ {A = ℕ} 0 1 = cc in absurd (omega arith)
+  no-gives e x h = clash cc
 
   -- past a check that did not refuse
   pub passed : (b : Bool) (e : Refusal) (r : Answer A) (x : A) → refuseIf b e r ≡ gives x → (b ≡ false) × (r ≡ gives x)

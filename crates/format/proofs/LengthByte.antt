@@ -12,7 +12,7 @@ use lib.ListN.{length, getD, drop}
 use lib.Dec.{ltb, eqb}
 use borrow.Author.Tests.{le-ltb, ltb-false, eqb-true, eq-eqb}
 use Rattle.lists.specs.Pick.{pick}
-use Rattle.lists.proofs.Split.{split}
+use Rattle.lists.proofs.Split.{split, clash}
 use Rattle.format.specs.Answer.{took, mapRead, long, sequence}
 use Rattle.format.specs.Number.{readByte}
 use Rattle.format.specs.Scalar.{Kind, Scalar, width, kindOf, scalarBytes, readScalar, place, sameKind, isOneOf}
@@ -50,7 +50,7 @@ Told ks [] = Unit {0}
 Told ks (k ∷ more) = (ofWidth ks (width k) ≡ some k) × Told ks more
 
 told : (ks more : List Kind) (k : Kind) → Told ks more → isOneOf more k ≡ true → ofWidth ks (width k) ≡ some k
-told ks [] k t h = let z : _≡_ {A = ℕ} 0 1 = cc in absurd (omega arith)
+told ks [] k t h = clash cc
 told ks (a ∷ more) k t h =
     split (sameKind k a) (λ e _. rw (same-kind k a e) (t .0)) (λ _ e. told ks more k (t .1) e) h
 
@@ -63,7 +63,7 @@ same-place a b e = eq-eqb (place b) (place a) (ap place (sym e))
 
 -- the listed kind of a width has this width, and is listed
 of-width : (ks : List Kind) (n : ℕ) (k : Kind) → ofWidth ks n ≡ some k → (n ≡ width k) × (isOneOf ks k ≡ true)
-of-width [] n k h = let z : _≡_ {A = ℕ} 0 1 = cc in absurd (omega arith)
+of-width [] n k h = clash cc
 of-width (a ∷ ks) n k h =
     split (eqb n (width a))
     (λ e q.

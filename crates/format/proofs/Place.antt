@@ -11,6 +11,7 @@ use lib.ListN.{length, drop, length-drop}
 use lib.Seq.{drop-drop}
 use lib.Dec.{ltb}
 use borrow.Author.Tests.{lt-ltb, le-ltb, ltb-false, ltb-true}
+use Rattle.lists.proofs.Split.{clash}
 use Rattle.lists.specs.Pick.{pick}
 use Rattle.format.specs.Answer.{Refusal, missing, Read, took, stops, stopIf, further, follow, thenRead, mapRead, readAt}
 use Rattle.format.specs.Number.{readByte, readLow, readHigh, readBytes}
@@ -23,7 +24,7 @@ Stays {A} reader = (s : List ℕ) (v : A) (n : ℕ) → reader s ≡ took v n �
 module _ {A : Type 0} where
   -- a read that stops takes nothing
   pub no-took : {P : Type 0} (e : Refusal) (v : A) (n : ℕ) → stops e ≡ took v n → P
-  no-took e v n h = let z : _≡_ {A = ℕ} 0 1 = cc in absurd (omega arith)
+  no-took e v n h = clash cc
 
   -- past a check that did not stop
   pub past : (b : Bool) (e : Refusal) (r : Read A) (v : A) (n : ℕ) → stopIf b e r ≡ took v n → (b ≡ false) × (r ≡ took v n)
@@ -120,7 +121,7 @@ module _ {A : Type 0} (reader : List ℕ → Read A) (s : List ℕ) (at : ℕ) w
   further-back (stops e) v m h = no-took e v m h
 
   further-stops : (r : Read A) (e : Refusal) → further at r ≡ stops e → r ≡ stops e
-  further-stops (took x k) e h = let z : _≡_ {A = ℕ} 0 1 = cc in absurd (omega arith)
+  further-stops (took x k) e h = clash cc
   further-stops (stops d) e h = h
 
   -- what a read at a place took: the place was inside, and the reader said so of the rest
@@ -161,7 +162,7 @@ module _ {A B : Type 0} (reader : List ℕ → Read A) (next : A → List ℕ �
       ∙ sym (at-inside (next v) s m (i .1))))))
 
   follow-stops : (r : Read A) (e : Refusal) → r ≡ stops e → follow r next (drop at s) ≡ stops e
-  follow-stops (took a n) e h = let z : _≡_ {A = ℕ} 0 1 = cc in absurd (omega arith)
+  follow-stops (took a n) e h = clash cc
   follow-stops (stops d) e h = let q : d ≡ e = cc in ap stops q
 
   same-refusal : (d e : Refusal) → _≡_ {A = Read A} (stops d) (stops e) → _≡_ {A = Read B} (stops d) (stops e)

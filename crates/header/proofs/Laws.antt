@@ -4,9 +4,9 @@ use mathlib.Core.Path.{_≡_, refl}
 use mathlib.Core.List.{List}
 use mathlib.Core.Bool.{Bool, true, false}
 use Prim.Native.Nat.{ℕ, _<_, _≤_}
-use native.Mathlib.Omega.{arith}
 use lib.ListN.{length, getD}
 use borrow.Author.Tests.{lt-ltb, le-ltb}
+use Rattle.lists.proofs.Split.{clash}
 use Rattle.lists.specs.Pick.{pick}
 use Rattle.format.specs.Answer.{gives, refuses, took, stops, missing, unknown}
 use Rattle.format.specs.Header.{listed, packetTypes, packetStatuses, headerOf, readHeader}
@@ -15,14 +15,14 @@ use Rattle.header.specs.Told.{known}
 -- a number is known exactly where it is listed
 by-list : (b : Bool) (m n : ℕ) → gives m ≡ pick b (gives n) (refuses unknown) → (b ≡ true) × (m ≡ n)
 by-list true m n h = (refl, cc)
-by-list false m n h = let z : _≡_ {A = ℕ} 0 1 = cc in absurd (omega arith)
+by-list false m n h = clash cc
 
 pub known-gives : (list : List ℕ) (m n : ℕ) → gives m ≡ known list n → (listed list n ≡ true) × (m ≡ n)
 unfolding known
 known-gives list m n h = by-list (listed list n) m n h
 
 not-in-list : (b : Bool) (n : ℕ) → refuses unknown ≡ pick b (gives n) (refuses unknown) → b ≡ false
-not-in-list true n h = let z : _≡_ {A = ℕ} 0 1 = cc in absurd (omega arith)
+not-in-list true n h = clash cc
 not-in-list false n h = refl
 
 pub known-refuses : (list : List ℕ) (n : ℕ) → refuses unknown ≡ known list n → listed list n ≡ false

@@ -1,13 +1,14 @@
 -- What a slice holds when a part of it, lent to a call from o on, is back.
 -- Assumes nothing.
-use Prim.Native.Nat.{ℕ, _+_, _-_, _<_}
-use mathlib.Core.Path.{_≡_, ap, _∙_}
+use Prim.Native.Nat.{ℕ, _+_, _-_, _≤_, _<_}
+use mathlib.Core.Path.{_≡_, sym, ap, _∙_}
 use mathlib.Core.List.{List, [], _∷_, _++_, append-nil}
 use native.Mathlib.Omega.{arith}
 use lib.ListN.{length, set, drop, length-drop, drop-of-length-le}
-use lib.Seq.{take-all, drop-drop, set-split}
+use lib.Seq.{take-all, drop-drop, set-split, sets}
 use borrow.Rule.Slice.PartMut.{putMid, midOf, postOf}
 use Rattle.lists.specs.Put.{putAt}
+use Rattle.lists.proofs.Front.{sets-put}
 
 -- the part is what stands from o on
 pub rest-is : (out : List ℕ) (o : ℕ) → midOf o (length out - o) out ≡ drop o out
@@ -23,3 +24,8 @@ lent-back out o c =
 pub lent-put : (out ys : List ℕ) (o : ℕ) (c : List ℕ) → ys ≡ c ++ drop (length c) (midOf o (length out - o) out) →
     putMid o (length out - o) out ys ≡ putAt out o c
 lent-put out ys o c e = ap (putMid o (length out - o) out) e ∙ lent-back out o c
+
+-- a part that was lent and is back, filled, is a run of stores
+pub lent-sets : (out ys : List ℕ) (a n : ℕ) → a + n ≤ length out → length ys ≡ n → putMid a n out ys ≡ sets out a ys
+unfolding putAt
+lent-sets out ys a n h e = rw (drop-drop n a out, ← e) (sym (sets-put out a ys (omega arith)))

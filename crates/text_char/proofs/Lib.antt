@@ -3,4 +3,3 @@ pub mod Places
 pub mod Units
 pub mod Stores
 pub mod Turns
-pub mod Sized

@@ -6,7 +6,7 @@ use mathlib.Core.Bool.{Bool, true, false}
 use Prim.Native.Nat.{ℕ, _≤_}
 use native.Mathlib.Omega.{arith}
 use lib.ListN.{drop}
-use Rattle.lists.proofs.Split.{split}
+use Rattle.lists.proofs.Split.{split, clash}
 use Rattle.format.specs.Answer.{Read, stops, notText}
 use Rattle.format.specs.Text.{between, wellFormed, second8, among8, char8}
 use Rattle.format.specs.Text as T
@@ -48,7 +48,7 @@ Rows P [] a = Unit {0}
 Rows P (r ∷ rs) a = (r .first ≤ a → a ≤ r .last → P (row (r .marker) (r .low) (r .high) (r .more))) × Rows P rs a
 
 by-lead : (P : T.Row → Type 0) (rs : List T.Row) (a : ℕ) (r : T.Row) → Rows P rs a → leadIn rs a ≡ chosen r → P r
-by-lead P [] a r f h = let z : _≡_ {A = ℕ} 0 1 = cc in absurd (omega arith)
+by-lead P [] a r f h = clash cc
 by-lead P (q ∷ rs) a r f h =
     split (between (q .first) (q .last) a)
     (λ e g. let i = in-between (q .first) (q .last) a e in let k : row (q .marker) (q .low) (q .high) (q .more) ≡ r = cc in subst P k (f .0 (i .0) (i .1)))

@@ -19,11 +19,6 @@ abbrev pub charTold : CharRead → Read ℕ
 charTold (C.Char c n) = took c n
 charTold (C.Refused e) = stops (refusalTold e)
 
--- an answer that gives bytes, and room for them
-abbrev pub Fitting : Answer (List ℕ) → ℕ → Type 0
-Fitting (gives bytes) n = length bytes ≤ n
-Fitting (refuses e) n = ⊥
-
 -- whether a byte of a range stands in front
 abbrev pub standsIn : ℕ → ℕ → List ℕ → Bool
 standsIn low high [] = false

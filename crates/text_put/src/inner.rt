@@ -9,7 +9,8 @@ ghost use Rattle.format.specs.Text.{second8, unit, pair16, utf8, utf16, textIn,
 ghost use Rattle.format.specs.Number.{lowBytes};
 ghost use Rattle.lists.specs.Put.{putAt};
 ghost use lib.Seq.{sets};
-ghost use Rattle.text_char.specs.Told.{charTold, rowTold, Led, Fitting};
+ghost use Rattle.text_char.specs.Told.{charTold, rowTold, Led};
+ghost use Rattle.wire.specs.Told.{Fitting};
 use text_char::CharRead;
 use text_char::utf8;
 use text_char::utf16;

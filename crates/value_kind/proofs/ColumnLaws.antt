@@ -5,6 +5,7 @@ use mathlib.Core.Bool.{Bool, true, false}
 use Prim.Native.Nat.{ℕ, _<_, _^_}
 use native.Mathlib.Omega.{arith}
 use borrow.Author.Tests.{ltb-true, eqb-true}
+use Rattle.lists.proofs.Split.{clash}
 use Rattle.format.specs.Answer.{gives, refuses, rule, wrote}
 use Rattle.format.specs.Descriptor.{TypeId, fixedLen, byteLen, uShortLen, longLen, daten, xml, udt, ssVariant, Column, lengthFits, keepsRule}
 use Rattle.format.specs.Value.{Given, familyOf, writeFamily, writeValue}
@@ -40,4 +41,4 @@ module _ (c : Column) where
     where
       go : (b : Bool) → keepsRule c ≡ b → keepsRule c ≡ true
       go true e = e
-      go false e = let z : _≡_ {A = ℕ} 0 1 = cc (rw e at h) in absurd (omega arith)
+      go false e = clash (cc (rw e at h))

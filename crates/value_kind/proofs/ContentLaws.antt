@@ -9,6 +9,7 @@ use native.Mathlib.Omega.{arith}
 use lib.ListN.{length, take, drop, length-append, length-take, length-drop}
 use lib.Dec.{eqb, leb, ltb}
 use borrow.Author.Tests.{lt-ltb, le-ltb, leb-true, ltb-true, ltb-false}
+use Rattle.lists.proofs.Split.{clash}
 use Rattle.lists.specs.Pick.{pick}
 use Rattle.format.specs.Answer.{Answer, gives, refuses, Refusal, missing, kind, long, refuseIf, andThen, wrote, Part, inside, outside, part}
 use Rattle.format.specs.Number.{lowBytes}
@@ -24,8 +25,8 @@ use Rattle.value_kind.specs.Form.{givenOf, sameContent, encoded, encoded
 
 pub same-content : (j k : ContentKind) → true ≡ sameContent j k → j ≡ k
 same-content ContentKind.binary ContentKind.binary h = refl
-same-content ContentKind.binary ContentKind.string h = let z : _≡_ {A = ℕ} 0 1 = cc in absurd (omega arith)
-same-content ContentKind.string ContentKind.binary h = let z : _≡_ {A = ℕ} 0 1 = cc in absurd (omega arith)
+same-content ContentKind.binary ContentKind.string h = clash cc
+same-content ContentKind.string ContentKind.binary h = clash cc
 same-content ContentKind.string ContentKind.string h = refl
 
 module _ (d : ℕ) (p : Part) where
@@ -38,10 +39,10 @@ module _ (d : ℕ) (p : Part) where
   no-listed fs ContentKind.string = refl
 
   pub other-content : (j k : ContentKind) → false ≡ sameContent j k → writeFamily d (some (content j)) (givenOf k p) ≡ refuses kind
-  other-content ContentKind.binary ContentKind.binary h = let z : _≡_ {A = ℕ} 0 1 = cc in absurd (omega arith)
+  other-content ContentKind.binary ContentKind.binary h = clash cc
   other-content ContentKind.binary ContentKind.string h = refl
   other-content ContentKind.string ContentKind.binary h = refl
-  other-content ContentKind.string ContentKind.string h = let z : _≡_ {A = ℕ} 0 1 = cc in absurd (omega arith)
+  other-content ContentKind.string ContentKind.string h = clash cc
 
 -- null in its form
 module _ (d : ℕ) (k : ContentKind) where
@@ -165,13 +166,13 @@ plp-size (b ∷ bs) h = simp length-append (omega arith)
 module _ (h : List ℕ) (plp : Bool) (bound : ℕ) where
   pub framed-refused : (a : Answer (List ℕ)) (e : Refusal) → refuses e ≡ wrote a → refuses e ≡ wrote (andThen a (framed h plp bound))
   unfolding wrote
-  framed-refused (gives c) e w = let z : _≡_ {A = ℕ} 0 1 = cc in absurd (omega arith)
+  framed-refused (gives c) e w = clash cc
   framed-refused (refuses r) e w = w
 
   pub framed-long : (a : Answer (List ℕ)) (n : ℕ) → gives n ≡ wrote a → bound < n → refuses long ≡ wrote (andThen a (framed h plp bound))
   unfolding wrote framed
   framed-long (gives c) n w i = let e : n ≡ length c = cc in let t = lt-ltb bound (length c) (omega arith) in rw t
-  framed-long (refuses r) n w i = let z : _≡_ {A = ℕ} 0 1 = cc in absurd (omega arith)
+  framed-long (refuses r) n w i = clash cc
 
   pub framed-size : (a : Answer (List ℕ)) (n m : ℕ) → gives n ≡ wrote a → n ≤ bound → ((c : List ℕ) → length c ≡ n → m ≡ length (formed plp c)) →
       gives (length h + m) ≡ wrote (andThen a (framed h plp bound))
@@ -180,4 +181,4 @@ module _ (h : List ℕ) (plp : Bool) (bound : ℕ) where
       let e : n ≡ length c = cc in
       let t = le-ltb bound (length c) (omega arith) in
       rw (t, length-append, f c (sym e))
-  framed-size (refuses r) n m w i f = let z : _≡_ {A = ℕ} 0 1 = cc in absurd (omega arith)
+  framed-size (refuses r) n m w i f = clash cc

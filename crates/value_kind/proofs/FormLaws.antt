@@ -12,6 +12,7 @@ use lib.Dec.{eqb, leb, ltb}
 use lib.Seq.{sets, length-sets}
 use borrow.Author.Tests.{ltb-true, ltb-false}
 use borrow.Rule.Slice.PartMut.{putMid}
+use Rattle.lists.proofs.Split.{clash}
 use Rattle.lists.proofs.Front.{sets-then}
 use Rattle.format.specs.Answer.{Answer, gives, refuses, missing, kind, long, notCarried, andThen, wrote, Part, part}
 use Rattle.format.specs.Number.{lowBytes}
@@ -19,7 +20,8 @@ use Rattle.format.specs.Plp.{plpMark, plpUnknown, plpBytes}
 use Rattle.format.specs.Value.{ContentKind, Family, fixedWidth, lengthByte, content, contentBound, writeFamily, writeUntyped}
 use Rattle.value_kind.specs.Form.{givenOf, encodedPart, formed, inForm, framed, shortUpTo, untypedHead, untypedLimit}
 use Rattle.value_kind.proofs.ContentLaws.{no-fixed, no-listed, content-framed, span-outside, untyped-span}
-use Rattle.value_kind.proofs.FillLaws.{not-refused, check-passed, count-is, filled, lent-sets}
+use Rattle.wire.proofs.Writing.{not-refused, check-passed, count-is, filled}
+use Rattle.lists.proofs.Lent.{lent-sets}
 
 -- ---- what is in a form has content
 
@@ -133,7 +135,7 @@ head-room head plp (refuses e) n h = not-refused e n h
 
 with-head : (head : List ℕ) (plp : Bool) (a : Answer (List ℕ)) (ys : List ℕ) → gives ys ≡ inForm plp a → headed head plp a ≡ gives (head ++ ys)
 with-head head plp (gives c) ys e = let z : ys ≡ formed plp c = cc in rw z
-with-head head plp (refuses r) ys e = let z : _≡_ {A = ℕ} 0 1 = cc in absurd (omega arith)
+with-head head plp (refuses r) ys e = clash cc
 
 pub head-filled : (head : List ℕ) (plp : Bool) (a : Answer (List ℕ)) (out one ys new : List ℕ) (m : ℕ) →
     gives (length out) ≡ wrote (headed head plp a) → m ≡ length head → one ≡ sets out 0 head → gives ys ≡ inForm plp a

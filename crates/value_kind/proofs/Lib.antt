@@ -1,4 +1,3 @@
-pub mod FillLaws
 pub mod ScalarLaws
 pub mod ContentLaws
 pub mod FormLaws

@@ -21,7 +21,7 @@ use Rattle.wire.specs.Told.{guidBytes}
 use Rattle.value_kind.specs.declared.Scalar.{Scalar}
 use Rattle.value_kind.specs.declared.Scalar.the-variants as C
 use Rattle.value_kind.specs.Told.{scalarTold, numberOf}
-use Rattle.value_kind.proofs.FillLaws.{check-passed}
+use Rattle.wire.proofs.Writing.{check-passed}
 
 -- a list of one
 pub only : (b : Bool) → b ≡ pick b true false

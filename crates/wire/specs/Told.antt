@@ -1,7 +1,7 @@
 -- What this crate's declared types tell, in the words of `format`: document 01's number or values for each case of an enum.
-use Prim.Native.Nat.{ℕ, _<_}
+use Prim.Native.Nat.{ℕ, _<_, _≤_}
 use mathlib.Core.List.{List, _++_}
-use lib.ListN.{take, drop}
+use lib.ListN.{length, take, drop}
 use Rattle.lists.specs.Pick.{pick}
 use Rattle.format.specs.Answer.{Answer, gives, refuses, Read, took, stops, mapRead}
 use Rattle.format.specs.Answer as A
@@ -36,6 +36,11 @@ refusalTold R.NotText = A.notText
 abbrev pub wroteTold : Wrote → Answer ℕ
 wroteTold (W.Bytes n) = gives n
 wroteTold (W.Refused e) = refuses (refusalTold e)
+
+-- an answer that gives bytes, and room for them: what a writing pass asks of its caller
+abbrev pub Fitting : Answer (List ℕ) → ℕ → Type 0
+Fitting (gives bytes) n = length bytes ≤ n
+Fitting (refuses e) n = ⊥
 
 abbrev pub widthOf : Width → ℕ
 widthOf Widths.One = 1

@@ -6,7 +6,7 @@ use Rattle.format.specs.Answer.{gives, wrote}
 use Rattle.format.specs.Text.{textIn}
 use Rattle.wire.specs.Told.{wroteTold}
 use Rattle.wire.proofs.Writing.{refused-before, sized-short}
-use Rattle.text_char.proofs.Sized.{sized-fits, sized-written}
+use Rattle.wire.proofs.Writing.{sized-fits, sized-written}
 use Rattle.text.proofs.to_utf16.Statement.{statement}
 use Rattle.text.proofs.to_utf16.Tie as tie
 
@@ -25,7 +25,7 @@ returns c =
     let after-size = c .before .before in
     let start = after-size .before .before .before .before .before in
     let a = start .args in
-    sized-short (textIn (now (a .s))) (now (a .out)) (after-size .size .given .0 .0) (found after-size) (c .if1 .taken)
+    sized-short (now (a .out)) (after-size .size .given .0 .0) (textIn (now (a .s))) (found after-size) (c .if1 .taken)
 
 put-utf16-requires : tie.Need-put-utf16-requires
 put-utf16-requires c κs =

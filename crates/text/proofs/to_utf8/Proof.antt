@@ -6,7 +6,7 @@ use Rattle.format.specs.Answer.{gives, wrote}
 use Rattle.format.specs.Text.{textOut}
 use Rattle.wire.specs.Told.{wroteTold}
 use Rattle.wire.proofs.Writing.{refused-before, sized-short}
-use Rattle.text_char.proofs.Sized.{sized-fits, sized-written}
+use Rattle.wire.proofs.Writing.{sized-fits, sized-written}
 use Rattle.text.proofs.to_utf8.Statement.{statement}
 use Rattle.text.proofs.to_utf8.Tie as tie
 
@@ -25,7 +25,7 @@ returns c =
     let after-size = c .before .before in
     let start = after-size .before .before .before .before .before in
     let a = start .args in
-    sized-short (textOut (now (a .u))) (now (a .out)) (after-size .size .given .0 .0) (found after-size) (c .if1 .taken)
+    sized-short (now (a .out)) (after-size .size .given .0 .0) (textOut (now (a .u))) (found after-size) (c .if1 .taken)
 
 put-utf8-requires : tie.Need-put-utf8-requires
 put-utf8-requires c κs =

@@ -11,7 +11,7 @@ use Rattle.format.specs.Text.{char8, utf16, textIn}
 use Rattle.lists.proofs.Front.{front-none}
 use Rattle.format.proofs.Text.{in-gives}
 use Rattle.text_char.specs.Told.{charTold}
-use Rattle.text_char.proofs.Sized.{given, fits-given, after-given}
+use Rattle.wire.proofs.Writing.{given, fits-given, after-given}
 use Rattle.text_char.proofs.Turns.{Stands, stands8, Writing, write-room, write-more, write-stop, write-end}
 use Rattle.text_put.proofs.inner.put_utf16.Statement.{statement}
 use Rattle.text_put.proofs.inner.put_utf16.Tie as tie

@@ -12,7 +12,7 @@ use Rattle.lists.proofs.Front.{front-none}
 use Rattle.format.proofs.Number.{Bytes}
 use Rattle.format.proofs.Text.{out-gives}
 use Rattle.text_char.specs.Told.{charTold}
-use Rattle.text_char.proofs.Sized.{given, fits-given, after-given}
+use Rattle.wire.proofs.Writing.{given, fits-given, after-given}
 use Rattle.text_char.proofs.Turns.{Stands, stands16, last16, Writing, write-room, write-more, write-stop, write-end}
 use Rattle.text_put.proofs.inner.put_utf8.Statement.{statement}
 use Rattle.text_put.proofs.inner.put_utf8.Tie as tie

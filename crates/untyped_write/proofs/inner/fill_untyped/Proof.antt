@@ -3,7 +3,7 @@ use mathlib.Core.Path.{refl}
 use native.Mathlib.Omega.{arith}
 use mathlib.Core.List.{[], _∷_}
 use Rattle.format.specs.Value.{Given, writeUntyped}
-use Rattle.value_kind.proofs.FillLaws.{count-is, filled}
+use Rattle.wire.proofs.Writing.{count-is, filled}
 use borrow.Author.Needs.{needs}
 use Rattle.untyped_write.proofs.inner.fill_untyped.Statement.{statement}
 use Rattle.untyped_write.proofs.inner.fill_untyped.Tie as tie

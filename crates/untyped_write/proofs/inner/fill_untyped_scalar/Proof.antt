@@ -6,7 +6,7 @@ use Rattle.format.specs.Descriptor.{byteLenByte}
 use Rattle.format.specs.Scalar.{width, kindOf, scalarBytes}
 use Rattle.format.specs.Value.{untypedType}
 use Rattle.value_kind.specs.Told.{kindTold, scalarTold}
-use Rattle.value_kind.proofs.FillLaws.{count-is, filled}
+use Rattle.wire.proofs.Writing.{count-is, filled}
 use Rattle.value_kind.proofs.ScalarLaws.{length-bytes, width-most, untyped-bytes}
 use borrow.Author.Needs.{needs}
 use Rattle.untyped_write.proofs.inner.fill_untyped_scalar.Statement.{statement}

@@ -3,7 +3,7 @@ use mathlib.Core.Path.{refl}
 use native.Mathlib.Omega.{arith}
 use Rattle.format.specs.Answer.{gives}
 use Rattle.format.specs.Text.{textIn}
-use Rattle.value_kind.proofs.FillLaws.{count-is, fits-all, leaves-none, copied}
+use Rattle.wire.proofs.Writing.{count-is, sized-fits, leaves-none, copied}
 use borrow.Author.Needs.{needs}
 use Rattle.value_fill.proofs.inner.fill_content.Statement.{statement}
 use Rattle.value_fill.proofs.inner.fill_content.Tie as tie
@@ -24,7 +24,7 @@ put-utf16-requires : tie.Need-put-utf16-requires
 put-utf16-requires c κs =
     let after-enum-told2 = c .before in
     let start = after-enum-told2 .before .before .before .before in
-    fits-all (textIn (start .args .s .now)) _ (rw (after-enum-told2 .enum-told2 .given .1) at (start .pre))
+    sized-fits (start .args .out .now) _ (textIn (start .args .s .now)) (rw (after-enum-told2 .enum-told2 .given .1) at (start .pre)) (omega arith)
 
 same-length : tie.Need-same-length
 same-length c = search needs

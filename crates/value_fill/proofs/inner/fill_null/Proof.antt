@@ -7,7 +7,7 @@ use Rattle.format.specs.Plp.{plpNull}
 use Rattle.format.specs.Value.{shortNull}
 use Rattle.format.specs.Answer.{gives, kind, notCarried}
 use Rattle.value_kind.specs.Told.{contentKindTold}
-use Rattle.value_kind.proofs.FillLaws.{not-refused, count-is, filled}
+use Rattle.wire.proofs.Writing.{not-refused, count-is, filled}
 use Rattle.value_kind.proofs.ContentLaws.{null-plp, null-short}
 use borrow.Author.Needs.{needs}
 use Rattle.value_fill.proofs.inner.fill_null.Statement.{statement}

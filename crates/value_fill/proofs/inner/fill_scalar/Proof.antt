@@ -11,7 +11,7 @@ use Rattle.lists.proofs.Front.{sets-then}
 use Rattle.format.specs.Scalar.{width, kindOf, scalarBytes}
 use Rattle.format.specs.Answer.{kind, notCarried}
 use Rattle.value_kind.specs.Told.{kindTold, scalarTold}
-use Rattle.value_kind.proofs.FillLaws.{not-refused, count-is, filled}
+use Rattle.wire.proofs.Writing.{not-refused, count-is, filled}
 use Rattle.value_kind.proofs.ScalarLaws.{length-bytes, width-most, fixed-written, listed-written}
 use borrow.Author.Needs.{needs}
 use Rattle.value_fill.proofs.inner.fill_scalar.Statement.{statement}
