@@ -1,15 +1,26 @@
 -- `column_write::write_column` meets its contract: the size's refusal, refusal 4, or the bytes. Assumes nothing.
-use mathlib.Core.Path.{sym, ap, _∙_}
+use mathlib.Core.Path.{_≡_, sym, ap, _∙_}
+use mathlib.Core.List.{List}
+use Prim.Native.Nat.{ℕ}
 use native.Mathlib.Omega.{arith}
-use Rattle.lists.proofs.Front.{sets-front}
+use Rattle.format.specs.Answer.{gives, wrote}
 use Rattle.format.specs.Descriptor.{columnBytes, writeColumn}
-use Rattle.wire.specs.Told.{wroteTold, refusalTold}
-use Rattle.wire.proofs.Writing.{no-room, has-room, refused-before}
+use Rattle.format.specs.Descriptor as D
+use Rattle.wire.specs.Told.{wroteTold}
+use Rattle.wire.proofs.Writing.{refused-before, sized-short, sized-written, front-stored}
 use Rattle.column_type.specs.Told.{columnTold}
 use Rattle.column_type.proofs.WriteLaws.{sized}
 use borrow.Author.Needs.{needs}
 use Rattle.column_write.proofs.write_column.Statement.{statement}
 use Rattle.column_write.proofs.write_column.Tie as tie
+
+-- the column, as it is told
+abbrev told : tie.Start → D.Column
+told start = columnTold (start .args .names .now) (start .args .c)
+
+-- the size that was found
+found : (c : tie.After-n) → gives (c .n .given .0 .0) ≡ wrote (writeColumn (told (c .before .before .before .before .before)))
+found c = sym (ap wroteTold (c .n .given .1)) ∙ c .before .before .column-size .ensures
 
 column-size-requires : tie.Need-column-size-requires
 column-size-requires c κs = search needs
@@ -19,24 +30,15 @@ enum-known-n c = search needs
 
 returns : tie.Need-returns
 returns c =
-    let after-n = c .before .before in
-    let after-column-size = after-n .before .before in
-    let start = after-column-size .before .before .before in
-    let a = start .args in
-    let k = columnTold (a .names .now) (a .c) in
-    let g = after-n .n .given in
-    let z = sized k (g .0 .0) (sym (ap wroteTold (g .1)) ∙ after-column-size .column-size .ensures) in
-    rw (z .0) (no-room (columnBytes k) (a .out .now) (omega (arith, z .2)))
+    let named = c .before .before in
+    let start = named .before .before .before .before .before in
+    sized-short (start .args .out .now) (named .n .given .0 .0) (writeColumn (told start)) (found named) (c .if1 .taken)
 
 put-column-requires : tie.Need-put-column-requires
 put-column-requires c κs =
-    let after-n = c .before .before .before in
-    let after-column-size = after-n .before .before in
-    let start = after-column-size .before .before .before in
-    let a = start .args in
-    let k = columnTold (a .names .now) (a .c) in
-    let g = after-n .n .given in
-    let z = sized k (g .0 .0) (sym (ap wroteTold (g .1)) ∙ after-column-size .column-size .ensures) in
+    let named = c .before .before .before in
+    let start = named .before .before .before .before .before in
+    let z = sized (told start) (named .n .given .0 .0) (found named) in
     (z .1, omega (arith, z .2))
 
 enum-known-e : tie.Need-enum-known-e
@@ -47,26 +49,22 @@ same-length c = search needs
 
 returns-2 : tie.Need-returns-2
 returns-2 c =
-    let after-put-column = c .before .before in
-    let after-n = after-put-column .before .before .before .before in
-    let after-column-size = after-n .before .before in
-    let start = after-column-size .before .before .before in
-    let a = start .args in
-    let k = columnTold (a .names .now) (a .c) in
-    let g = after-n .n .given in
-    let z = sized k (g .0 .0) (sym (ap wroteTold (g .1)) ∙ after-column-size .column-size .ensures) in
-    let h = has-room (columnBytes k) (a .out .now) (g .0 .0) (z .2) (omega (arith, z .2)) in
-    rw (z .0) (h .0, after-put-column .put-column .ensures ∙ (sets-front (a .out .now) (columnBytes k) (omega (arith, z .2)) ∙ h .1))
+    let put = c .before .before in
+    let roomy = put .before .before in
+    let named = roomy .before .before in
+    let start = named .before .before .before .before .before in
+    let out = start .args .out .now in
+    let n = named .n .given .0 .0 in
+    let z = sized (told start) n (found named) in
+    let stored = put .put-column .ensures ∙ front-stored (columnBytes (told start)) out (omega (arith, z .2)) in
+    sized-written out n (writeColumn (told start)) _ (found named) (roomy .if1 .left) (rw (z .0) stored)
 
 returns-3 : tie.Need-returns-3
 returns-3 c =
-    let after-e = c .before in
-    let after-column-size = after-e .before .before in
-    let start = after-column-size .before .before .before in
-    let a = start .args in
-    let g = after-e .e .given in
-    refused-before (writeColumn (columnTold (a .names .now) (a .c))) (a .out .now) (refusalTold (g .0 .0))
-    (sym (ap wroteTold (g .1)) ∙ after-column-size .column-size .ensures)
+    let refused = c .before in
+    let start = refused .before .before .before .before .before in
+    let e = sym (ap wroteTold (refused .e .given .1)) ∙ refused .before .before .column-size .ensures in
+    refused-before (writeColumn (told start)) (start .args .out .now) _ e
 
 pub write-column-spec : {M : Type 1} → statement M
 write-column-spec =
