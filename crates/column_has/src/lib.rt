@@ -7,6 +7,9 @@ use column_type::LongLen;
 use column_type::TypeId;
 use column_type::UShortLen;
 
+// Daten's length, which its descriptor does not say.
+pub const DATEN_LENGTH: u64 = 3;
+
 fn byte_len_digits(t: ByteLen) -> bool
     ensures { λ r. ⌜ r ≡ hasDigits (byteLen (byteLenTold t)) ⌝ }
 {

@@ -1,6 +1,5 @@
 pub mod TypeLaws
 pub mod ReadLaws
-pub mod FieldLaws
 pub mod RuleLaws
 pub mod WriteLaws
 pub mod Decided

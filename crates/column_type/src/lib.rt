@@ -1,5 +1,7 @@
-// TYPE_INFO, a column's descriptor, both ways: MS-TDS 2.2.5.4 to 2.2.5.6.
+// TYPE_INFO, a column's descriptor: the types, by the form of their descriptor, and the record.
 
+ghost use mathlib.Core.Path.{_≡_};
+ghost use Rattle.column_type.specs.Told.{plainColumn};
 use wire::Cursor;
 use wire::Refusal;
 
@@ -106,4 +108,18 @@ pub enum ColumnRead {
 pub enum NameRead {
     Name(Name, Cursor),
     Refused(Refusal),
+}
+
+// A column with a type and a length, and nothing else.
+pub fn plain(t: TypeId, n: u64) -> Column
+    ensures { λ r. ⌜ r ≡ plainColumn t n ⌝ }
+{
+    Column {
+        ty: t,
+        length: n,
+        precision: 0,
+        scale: 0,
+        collation: Collation::None,
+        schema: Schema::None,
+    }
 }

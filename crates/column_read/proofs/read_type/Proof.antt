@@ -1,7 +1,7 @@
 -- `column_read::read_type` meets its contract: the fields of the byte's type, or refusal 2. Assumes nothing.
 use mathlib.Core.Path.{sym, ap, _∙_}
 use Rattle.column_type.specs.Told.{typeTold, typeReadTold}
-use Rattle.column_type.proofs.FieldLaws.{known-type, unknown-type}
+use Rattle.column_read.proofs.FieldLaws.{known-type, unknown-type}
 use borrow.Author.Needs.{needs}
 use Rattle.column_read.proofs.read_type.Statement.{statement}
 use Rattle.column_read.proofs.read_type.Tie as tie

@@ -1,4 +1,4 @@
--- `column_read::read_schema` meets its contract: the names behind the marker 1, no schema behind any other. Assumes nothing.
+-- `column_name::read_schema` meets its contract: the names behind the marker 1, no schema behind any other. Assumes nothing.
 use Prim.Native.Nat.{_+_}
 use lib.Dec.{eqb}
 use borrow.Author.Tests.{eq-eqb, ne-eqb}
@@ -11,8 +11,8 @@ use Rattle.column_type.specs.Told.{nameReadTold, nameBytes, NameFrom}
 use Rattle.column_type.proofs.ReadLaws.{stays-name}
 use Rattle.column_type.specs.declared.NameRead.the-variants as NR
 use borrow.Author.Needs.{needs}
-use Rattle.column_read.proofs.read_schema.Statement.{statement}
-use Rattle.column_read.proofs.read_schema.Tie as tie
+use Rattle.column_name.proofs.read_schema.Statement.{statement}
+use Rattle.column_name.proofs.read_schema.Tie as tie
 
 read-name-requires : tie.Need-read-name-requires
 read-name-requires c κs = search needs

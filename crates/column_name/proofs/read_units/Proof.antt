@@ -1,12 +1,12 @@
--- `column_read::read_units` meets its contract: the name's bytes where all of them are there, refusal 1 where one is not. Assumes nothing.
+-- `column_name::read_units` meets its contract: the name's bytes where all of them are there, refusal 1 where one is not. Assumes nothing.
 use mathlib.Core.Path.{refl}
 use Prim.Native.Nat.{_+_, _*_, _≤_}
 use native.Mathlib.Omega.{arith}
 use lib.ListN.{length}
 use Rattle.column_type.proofs.ReadLaws.{bytes-there, bytes-missing}
 use borrow.Author.Needs.{needs}
-use Rattle.column_read.proofs.read_units.Statement.{statement}
-use Rattle.column_read.proofs.read_units.Tie as tie
+use Rattle.column_name.proofs.read_units.Statement.{statement}
+use Rattle.column_name.proofs.read_units.Tie as tie
 
 sub-if1 : tie.Need-sub-if1
 sub-if1 c = search needs

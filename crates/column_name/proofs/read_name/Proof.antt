@@ -1,4 +1,4 @@
--- `column_read::read_name` meets its contract: the count, and the bytes behind it. Assumes nothing.
+-- `column_name::read_name` meets its contract: the count, and the bytes behind it. Assumes nothing.
 use mathlib.Core.Path.{sym, ap, _∙_}
 use Rattle.format.specs.Number.{readLow}
 use Rattle.format.specs.Descriptor.{readUnits}
@@ -6,8 +6,8 @@ use Rattle.format.proofs.Place.{stays-low, next-inside, at-then, at-then-stops}
 use Rattle.wire.specs.Told.{widthOf, numberTold, refusalTold}
 use Rattle.column_type.proofs.ReadLaws.{low-next}
 use borrow.Author.Needs.{needs}
-use Rattle.column_read.proofs.read_name.Statement.{statement}
-use Rattle.column_read.proofs.read_name.Tie as tie
+use Rattle.column_name.proofs.read_name.Statement.{statement}
+use Rattle.column_name.proofs.read_name.Tie as tie
 
 low-requires : tie.Need-low-requires
 low-requires c κs = search needs

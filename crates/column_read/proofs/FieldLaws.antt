@@ -6,9 +6,9 @@ use mathlib.Core.Bool.{false}
 use Prim.Native.Nat.{ℕ, _≤_}
 use lib.ListN.{length}
 use Rattle.format.specs.Answer.{Answer, gives, refuses, unknown, notCarried, took, stops, thenRead, readAt}
-use Rattle.format.specs.Number.{readByte, readLow}
-use Rattle.format.specs.Descriptor.{TypeId, FixedLen, ByteLen, UShortLen, LongLen, fixedLen, byteLen, uShortLen, longLen, daten, xml, udt, ssVariant}
-use Rattle.format.specs.Descriptor.{Column, plain, datenLength, typeOf, readDigits, readCollation, readSchema, readFields, readTyped, readType}
+use Rattle.format.specs.Number.{readByte}
+use Rattle.format.specs.Descriptor.{TypeId, FixedLen, fixedLen, daten, xml, udt, ssVariant}
+use Rattle.format.specs.Descriptor.{Column, plain, datenLength, typeOf, readSchema, readFields, readTyped, readType}
 use Rattle.format.proofs.Place.{at-left, at-stops}
 
 module _ (t : TypeId) (s : List ℕ) (at : ℕ) where
@@ -17,15 +17,6 @@ module _ (t : TypeId) (s : List ℕ) (at : ℕ) where
 
   pub fixed-fields : (f : FixedLen) → t ≡ fixedLen f → at ≤ length s → readAt (readFields t) s at ≡ took (plain t 0) at
   fixed-fields f q i = rw q (nothing (plain (fixedLen f) 0) i)
-
-  pub byte-fields : (f : ByteLen) → t ≡ byteLen f → readAt (readFields t) s at ≡ readAt (thenRead readByte (readDigits t)) s at
-  byte-fields f q = rw q
-
-  pub short-fields : (f : UShortLen) → t ≡ uShortLen f → readAt (readFields t) s at ≡ readAt (thenRead (readLow 2) (readCollation t)) s at
-  short-fields f q = rw q
-
-  pub long-fields : (f : LongLen) → t ≡ longLen f → readAt (readFields t) s at ≡ readAt (thenRead (readLow 4) (readCollation t)) s at
-  long-fields f q = rw q
 
   pub daten-fields : t ≡ daten → at ≤ length s → readAt (readFields t) s at ≡ took (plain t datenLength) at
   daten-fields q i = rw q (nothing (plain daten datenLength) i)

@@ -1,4 +1,4 @@
--- `column_read::read_third` meets its contract: the third name, or why there is none. Assumes nothing.
+-- `column_name::read_third` meets its contract: the third name, or why there is none. Assumes nothing.
 use Prim.Native.Nat.{_+_}
 use mathlib.Core.Path.{refl, sym, ap, _∙_}
 use Rattle.format.specs.Descriptor.{readName, withNames}
@@ -10,8 +10,8 @@ use Rattle.format.specs.Answer.{took}
 use Rattle.format.specs.Descriptor as D
 use Rattle.column_type.specs.declared.NameRead.the-variants as NR
 use borrow.Author.Needs.{needs}
-use Rattle.column_read.proofs.read_third.Statement.{statement}
-use Rattle.column_read.proofs.read_third.Tie as tie
+use Rattle.column_name.proofs.read_third.Statement.{statement}
+use Rattle.column_name.proofs.read_third.Tie as tie
 
 read-name-requires : tie.Need-read-name-requires
 read-name-requires c κs = search needs

@@ -1,4 +1,4 @@
--- `column_read::read_second` meets its contract: the second name, and the third behind it. Assumes nothing.
+-- `column_name::read_second` meets its contract: the second name, and the third behind it. Assumes nothing.
 use Prim.Native.Nat.{_+_}
 use native.Mathlib.Omega.{arith}
 use mathlib.Core.Path.{sym, ap, _∙_}
@@ -9,8 +9,8 @@ use Rattle.column_type.specs.Told.{nameReadTold, nameBytes, NameFrom}
 use Rattle.column_type.proofs.ReadLaws.{stays-name, third-names}
 use Rattle.column_type.specs.declared.NameRead.the-variants as NR
 use borrow.Author.Needs.{needs}
-use Rattle.column_read.proofs.read_second.Statement.{statement}
-use Rattle.column_read.proofs.read_second.Tie as tie
+use Rattle.column_name.proofs.read_second.Statement.{statement}
+use Rattle.column_name.proofs.read_second.Tie as tie
 
 read-name-requires : tie.Need-read-name-requires
 read-name-requires c κs = search needs
