@@ -10,7 +10,7 @@ use column_type::TypeRead;
 use column_type::UShortLen;
 
 // The bytes of each family.
-fn fixed_byte(t: FixedLen) -> u8
+pub fn fixed_byte(t: FixedLen) -> u8
     ensures { λ r. ⌜ r ≡ fixedByte (fixedTold t) ⌝ }
 {
     match t {
@@ -29,7 +29,7 @@ fn fixed_byte(t: FixedLen) -> u8
     }
 }
 
-fn byte_len_byte(t: ByteLen) -> u8
+pub fn byte_len_byte(t: ByteLen) -> u8
     ensures { λ r. ⌜ r ≡ byteLenByte (byteLenTold t) ⌝ }
 {
     match t {
@@ -47,7 +47,7 @@ fn byte_len_byte(t: ByteLen) -> u8
     }
 }
 
-fn u_short_len_byte(t: UShortLen) -> u8
+pub fn u_short_len_byte(t: UShortLen) -> u8
     ensures { λ r. ⌜ r ≡ uShortLenByte (uShortLenTold t) ⌝ }
 {
     match t {

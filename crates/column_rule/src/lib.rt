@@ -44,7 +44,7 @@ fn length_fits(t: TypeId, n: u64) -> bool
         TypeId::Byte(_) => below(n, 256),
         TypeId::UShort(_) => below(n, 65536),
         TypeId::Long(_) => below(n, 4294967296),
-        TypeId::Daten => same(n, 3),
+        TypeId::Daten => same(n, column_has::DATEN_LENGTH),
         TypeId::Xml => same(n, 0),
         TypeId::Udt => same(n, 0),
         TypeId::SsVariant => same(n, 0),

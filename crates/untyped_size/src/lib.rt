@@ -19,6 +19,17 @@ use value_kind::kinds;
 use value_size::content;
 use wire::Wrote;
 
+// The declared length of short content, and up to how many bytes content is short: binary as it is,
+// a string by its UTF-8.
+const UNTYPED_LENGTH: u32 = 8000;
+
+const UNTYPED_BINARY: usize = 8000;
+
+const UNTYPED_STRING: usize = 4000;
+// How many bytes PLP content may have without a type.
+const UNTYPED_BOUND: u32 = 2147483647;
+
+// Is a count within a limit?
 fn at_most(count: usize, limit: usize) -> bool
     ensures { λ r. ⌜ r ≡ leb count limit ⌝ }
 {
@@ -33,8 +44,8 @@ pub fn is_short(k: ContentKind, count: usize) -> bool
     ensures { λ r. ⌜ r ≡ leb count (shortUpTo (contentKindTold k)) ⌝ }
 {
     match k {
-        ContentKind::Binary => at_most(count, 8000),
-        ContentKind::String => at_most(count, 4000),
+        ContentKind::Binary => at_most(count, UNTYPED_BINARY),
+        ContentKind::String => at_most(count, UNTYPED_STRING),
     }
 }
 
@@ -43,9 +54,9 @@ pub fn untyped_length(short: bool) -> u64
     ensures { λ r. ⌜ r ≡ pick short untypedLength plpMark ⌝ }
 {
     if short {
-        return 8000;
+        return UNTYPED_LENGTH as u64;
     }
-    65535
+    content::PLP_MARK as u64
 }
 
 // How many bytes of descriptor stand in front of content without a type.
@@ -63,9 +74,9 @@ fn untyped_limit(short: bool) -> u32
     ensures { λ r. ⌜ r ≡ untypedLimit short ⌝ }
 {
     if short {
-        return 8000;
+        return UNTYPED_LENGTH;
     }
-    2147483647
+    UNTYPED_BOUND
 }
 
 // Content with its own descriptor in front: the form goes by the bytes as they were lent.

@@ -8,6 +8,8 @@ ghost use Rattle.format.specs.Answer.{gives, wrote};
 ghost use Rattle.format.specs.Value.{Given, writeUntyped};
 ghost use Rattle.value_kind.specs.Told.{contentKindTold, scalarTold, spanTold, valueTold};
 ghost use Rattle.value_kind.specs.Form.{givenOf, untypedHead};
+use column_type::FixedLen;
+use column_type::UShortLen;
 use value_kind::Scalar;
 use value_kind::Span;
 use value_kind::Value;
@@ -21,7 +23,7 @@ fn fill_untyped_scalar(s: Scalar, out: &mut [u8])
 {
     let k = kinds::kind_of(s);
     let n = kinds::bytes_of(k) as u8;
-    wire::inner::put_byte(out, 0, kinds::untyped_byte(k));
+    wire::inner::put_byte(out, 0, column_byte::byte_len_byte(kinds::untyped_type(k)));
     wire::inner::put_byte(out, 1, n);
     wire::inner::put_byte(out, 2, n);
     value_fill::inner::put_scalar(out, 3, s);
@@ -35,11 +37,11 @@ fn put_head(k: ContentKind, short: bool, out: &mut [u8])
     let declared = untyped_size::untyped_length(short);
     match k {
         ContentKind::Binary => {
-            wire::inner::put_byte(out, 0, 0xA5);
+            wire::inner::put_byte(out, 0, column_byte::u_short_len_byte(UShortLen::BigVarBin));
             wire::inner::put_low(out, 1, declared, 2);
         }
         ContentKind::String => {
-            wire::inner::put_byte(out, 0, 0xE7);
+            wire::inner::put_byte(out, 0, column_byte::u_short_len_byte(UShortLen::NVarchar));
             wire::inner::put_low(out, 1, declared, 2);
             wire::inner::put_low(out, 3, 0, 5);
         }
@@ -63,7 +65,7 @@ pub fn fill_untyped(v: Value, buffer: &[u8], out: &mut [u8])
     ensures { λ _. ⌜ gives (now (out .exit)) ≡ writeUntyped (valueTold (now (buffer .entry)) v) ⌝ }
 {
     match v {
-        Value::Null => wire::inner::put_byte(out, 0, 0x1F),
+        Value::Null => wire::inner::put_byte(out, 0, column_byte::fixed_byte(FixedLen::Null)),
         Value::Scalar(s) => fill_untyped_scalar(s, out),
         Value::Binary(p) => fill_untyped_content(ContentKind::Binary, p, buffer, out),
         Value::String(p) => fill_untyped_content(ContentKind::String, p, buffer, out),

@@ -2,13 +2,14 @@
 // number that stands in its bytes.
 ghost use mathlib.Core.Path.{_≡_};
 ghost use Rattle.lists.specs.Pick.{pick};
-ghost use Rattle.format.specs.Descriptor.{byteLenByte};
 ghost use Rattle.format.specs.Scalar.{width, kindOf, place, sameKind, isOneOf};
 ghost use Rattle.format.specs.Value.{untypedType};
+ghost use Rattle.column_type.specs.Told.{byteLenTold};
 ghost use Rattle.value_kind.specs.Told.{kindTold, listedTold, scalarTold, numberOf};
 use crate::Scalar;
 use bits::float::Float32;
 use bits::float::Float64;
+use column_type::ByteLen;
 
 pub enum Kind {
     Bit,
@@ -127,19 +128,19 @@ pub fn is_listed(l: Listed, k: Kind) -> bool
     }
 }
 
-// The type byte of a value that is written with its own descriptor.
-pub fn untyped_byte(k: Kind) -> u8
-    ensures { λ r. ⌜ r ≡ byteLenByte (untypedType (kindTold k)) ⌝ }
+// The type of a value that is written with its own descriptor.
+pub fn untyped_type(k: Kind) -> ByteLen
+    ensures { λ r. ⌜ byteLenTold r ≡ untypedType (kindTold k) ⌝ }
 {
     match k {
-        Kind::Bit => 0x68,
-        Kind::U8 => 0x26,
-        Kind::I16 => 0x26,
-        Kind::I32 => 0x26,
-        Kind::I64 => 0x26,
-        Kind::F32 => 0x6D,
-        Kind::F64 => 0x6D,
-        Kind::Guid => 0x24,
+        Kind::Bit => ByteLen::Bitn,
+        Kind::U8 => ByteLen::Intn,
+        Kind::I16 => ByteLen::Intn,
+        Kind::I32 => ByteLen::Intn,
+        Kind::I64 => ByteLen::Intn,
+        Kind::F32 => ByteLen::Floatn,
+        Kind::F64 => ByteLen::Floatn,
+        Kind::Guid => ByteLen::Guid,
     }
 }
 

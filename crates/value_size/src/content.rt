@@ -18,6 +18,11 @@ use value_kind::family::Family;
 use wire::Refusal;
 use wire::Wrote;
 
+// The declared length that says PLP.
+pub const PLP_MARK: u32 = 65535;
+// How many bytes PLP content may have under a type.
+const PLP_BOUND: u32 = 65535;
+
 // The content bytes: binary as it is, a string in UTF-16LE.
 fn encoded(k: ContentKind, s: &[u8]) -> Wrote
     ensures { λ r. ⌜ wroteTold r ≡ wrote (encoded (contentKindTold k) (now (s .entry))) ⌝ }
@@ -69,11 +74,11 @@ pub fn framed_span(k: ContentKind, p: Span, buffer: &[u8], head: u8, plp: bool, 
     Wrote::Refused(Refusal::Missing)
 }
 
-// Declared 65,535: PLP.
+// Is content of that declared length PLP?
 pub fn is_plp(declared: u32) -> bool
     ensures { λ r. ⌜ r ≡ eqb declared plpMark ⌝ }
 {
-    if declared == 65535 {
+    if declared == PLP_MARK {
         return true;
     }
     false
@@ -84,7 +89,7 @@ fn content_bound(declared: u32) -> u32
     ensures { λ r. ⌜ r ≡ contentBound declared ⌝ }
 {
     if is_plp(declared) {
-        return 65535;
+        return PLP_BOUND;
     }
     declared
 }

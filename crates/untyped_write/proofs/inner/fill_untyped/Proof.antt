@@ -2,6 +2,7 @@
 use mathlib.Core.Path.{refl}
 use native.Mathlib.Omega.{arith}
 use mathlib.Core.List.{[], _∷_}
+use Rattle.format.specs.Descriptor.{FixedLen, fixedByte}
 use Rattle.format.specs.Value.{Given, writeUntyped}
 use Rattle.wire.proofs.Writing.{count-is, filled}
 use borrow.Author.Needs.{needs}
@@ -11,12 +12,15 @@ use Rattle.untyped_write.proofs.inner.fill_untyped.Tie as tie
 enum-told : tie.Need-enum-told
 enum-told c = search needs
 
+fixed-byte-requires : tie.Need-fixed-byte-requires
+fixed-byte-requires c κs = search needs
+
 put-byte-requires : tie.Need-put-byte-requires
 unfolding writeUntyped
 put-byte-requires c κs =
-    let after-enum-told = c .before in
+    let after-enum-told = c .before .before in
     let start = after-enum-told .before .before .before .before in
-    omega (arith, count-is (writeUntyped Given.null) _ (0x1F ∷ []) (rw (after-enum-told .enum-told .given .1) at (start .pre)) refl)
+    omega (arith, count-is (writeUntyped Given.null) _ (fixedByte FixedLen.null ∷ []) (rw (after-enum-told .enum-told .given .1) at (start .pre)) refl)
 
 enum-known-v : tie.Need-enum-known-v
 enum-known-v c = search needs
@@ -52,11 +56,11 @@ returns : tie.Need-returns
 unfolding writeUntyped
 returns c =
     let after-put-byte = c .before .before in
-    let after-enum-told = after-put-byte .before .before in
+    let after-enum-told = after-put-byte .before .before .before in
     let start = after-enum-told .before .before .before .before in
     rw (after-enum-told .enum-told .given .1)
-    (filled (writeUntyped Given.null) (start .args .out .now) _ (0x1F ∷ []) (rw (after-enum-told .enum-told .given .1) at (start .pre)) refl
-    (after-put-byte .put-byte .ensures))
+    (filled (writeUntyped Given.null) (start .args .out .now) _ (fixedByte FixedLen.null ∷ []) (rw (after-enum-told .enum-told .given .1) at (start .pre)) refl
+    (rw (after-put-byte .before .fixed-byte .ensures) at (after-put-byte .put-byte .ensures)))
 
 same-length-2 : tie.Need-same-length-2
 same-length-2 c = search needs
@@ -90,6 +94,7 @@ fill-untyped-spec =
     tie.close
     (tie.spec
     enum-told
+    fixed-byte-requires
     put-byte-requires
     enum-known-v
     fill-untyped-scalar-requires
