@@ -29,6 +29,33 @@ pub struct Prelogin {
     pub fed_auth_required: bool,
 }
 
+// The places of the table's entries, five bytes each, and how many bytes the four options' data take
+// that always stand there.
+const SECOND: usize = 5;
+
+const THIRD: usize = 2 * SECOND;
+
+const FOURTH: usize = 3 * SECOND;
+
+const FIFTH: usize = 4 * SECOND;
+
+const DATA: usize = 12;
+// Without FEDAUTHREQUIRED: the place of 0xFF, where the data start, and how long the message is.
+const END: usize = FIFTH;
+
+const START: usize = END + 1;
+
+const SIZE: usize = START + DATA;
+// With it: an entry more, and a byte of data, the last.
+const FED_END: usize = FIFTH + SECOND;
+
+const FED_START: usize = FED_END + 1;
+
+const FED_LAST: usize = FED_START + DATA;
+
+const FED_SIZE: usize = FED_LAST + 1;
+
+// ENCRYPTION's byte.
 fn encryption_byte(e: Encryption) -> u8
     ensures { λ r. ⌜ r ≡ encryptionNumber e ⌝ }
 {
@@ -40,6 +67,7 @@ fn encryption_byte(e: Encryption) -> u8
     }
 }
 
+// A truth value's byte.
 fn truth_byte(b: bool) -> u8
     ensures { λ r. ⌜ r ≡ pick b 1 0 ⌝ }
 {
@@ -62,9 +90,9 @@ fn put_table(out: &mut [u8], start: u64)
     ensures { λ _. ⌜ now (out .exit) ≡ sets (now (out .entry)) 0 (tableBytes start) ⌝ }
 {
     put_entry(out, 0, 0, start, 6);
-    put_entry(out, 5, 1, start + 6, 1);
-    put_entry(out, 10, 3, start + 7, 4);
-    put_entry(out, 15, 4, start + 11, 1);
+    put_entry(out, SECOND, 1, start + 6, 1);
+    put_entry(out, THIRD, 3, start + 7, 4);
+    put_entry(out, FOURTH, 4, start + 11, 1);
 }
 
 // The data of the same four options, from at.
@@ -87,21 +115,21 @@ pub fn write_prelogin(p: Prelogin, out: &mut [u8]) -> Wrote
     ensures room { λ _. ⌜ now (out .exit) ≡ roomAfter (fitted (writePrelogin (preloginTold p)) (length (now (out .entry)))) (now (out .entry)) ⌝ }
 {
     if p.fed_auth_required {
-        if out.len() < 39 {
+        if out.len() < FED_SIZE {
             return Wrote::Refused(Refusal::Room);
         }
-        put_table(out, 26);
-        put_entry(out, 20, 6, 38, 1);
-        inner::put_byte(out, 25, 0xFF);
-        put_data(out, 26, p);
-        inner::put_byte(out, 38, 1);
-        return Wrote::Bytes(39);
+        put_table(out, FED_START as u64);
+        put_entry(out, FIFTH, 6, FED_LAST as u64, 1);
+        inner::put_byte(out, FED_END, 0xFF);
+        put_data(out, FED_START, p);
+        inner::put_byte(out, FED_LAST, 1);
+        return Wrote::Bytes(FED_SIZE);
     }
-    if out.len() < 33 {
+    if out.len() < SIZE {
         return Wrote::Refused(Refusal::Room);
     }
-    put_table(out, 21);
-    inner::put_byte(out, 20, 0xFF);
-    put_data(out, 21, p);
-    Wrote::Bytes(33)
+    put_table(out, START as u64);
+    inner::put_byte(out, END, 0xFF);
+    put_data(out, START, p);
+    Wrote::Bytes(SIZE)
 }
