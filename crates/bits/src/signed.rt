@@ -3,6 +3,7 @@
 ghost use mathlib.Core.Path.{_≡_};
 ghost use Rattle.format.specs.Number.{signed, unsigned};
 
+// What a number's 32 bits stand for.
 pub fn to_i32(n: u32) -> i32
     ensures { λ r. ⌜ r ≡ signed 4 n ⌝ }
 {
@@ -13,6 +14,7 @@ pub fn to_i32(n: u32) -> i32
     }
 }
 
+// Its 32 bits.
 pub fn of_i32(z: i32) -> u32
     ensures { λ r. ⌜ r ≡ unsigned 4 z ⌝ }
 {
@@ -23,6 +25,7 @@ pub fn of_i32(z: i32) -> u32
     }
 }
 
+// What a number's 16 bits stand for.
 pub fn to_i16(n: u16) -> i16
     ensures { λ r. ⌜ r ≡ signed 2 n ⌝ }
 {
@@ -33,6 +36,7 @@ pub fn to_i16(n: u16) -> i16
     }
 }
 
+// Its 16 bits.
 pub fn of_i16(z: i16) -> u16
     ensures { λ r. ⌜ r ≡ unsigned 2 z ⌝ }
 {
@@ -43,6 +47,7 @@ pub fn of_i16(z: i16) -> u16
     }
 }
 
+// What a number's 64 bits stand for.
 pub fn to_i64(n: u64) -> i64
     ensures { λ r. ⌜ r ≡ signed 8 n ⌝ }
 {
@@ -53,6 +58,7 @@ pub fn to_i64(n: u64) -> i64
     }
 }
 
+// Its 64 bits.
 pub fn of_i64(z: i64) -> u64
     ensures { λ r. ⌜ r ≡ unsigned 8 z ⌝ }
 {

@@ -9,7 +9,7 @@ use column_type::TypeId;
 use column_type::TypeRead;
 use column_type::UShortLen;
 
-// The bytes of each family.
+// The byte of a type of each family.
 pub fn fixed_byte(t: FixedLen) -> u8
     ensures { λ r. ⌜ r ≡ fixedByte (fixedTold t) ⌝ }
 {
@@ -29,6 +29,7 @@ pub fn fixed_byte(t: FixedLen) -> u8
     }
 }
 
+// One length byte.
 pub fn byte_len_byte(t: ByteLen) -> u8
     ensures { λ r. ⌜ r ≡ byteLenByte (byteLenTold t) ⌝ }
 {
@@ -47,6 +48,7 @@ pub fn byte_len_byte(t: ByteLen) -> u8
     }
 }
 
+// Two length bytes.
 pub fn u_short_len_byte(t: UShortLen) -> u8
     ensures { λ r. ⌜ r ≡ uShortLenByte (uShortLenTold t) ⌝ }
 {
@@ -60,6 +62,7 @@ pub fn u_short_len_byte(t: UShortLen) -> u8
     }
 }
 
+// Four length bytes.
 fn long_len_byte(t: LongLen) -> u8
     ensures { λ r. ⌜ r ≡ longLenByte (longLenTold t) ⌝ }
 {
@@ -107,6 +110,7 @@ fn fixed_of(b: u8) -> TypeRead
     }
 }
 
+// Those with one length byte.
 fn byte_len_of(b: u8) -> TypeRead
     ensures { λ r. ⌜ typeReadTold r ≡ among byteLenTypes b ⌝ }
 {
@@ -126,6 +130,7 @@ fn byte_len_of(b: u8) -> TypeRead
     }
 }
 
+// Those with two or four, and the four without a family.
 fn other_of(b: u8) -> TypeRead
     ensures { λ r. ⌜ typeReadTold r ≡ among otherTypes b ⌝ }
 {

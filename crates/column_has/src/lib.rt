@@ -10,6 +10,7 @@ use column_type::UShortLen;
 // Daten's length, which its descriptor does not say.
 pub const DATEN_LENGTH: u64 = 3;
 
+// Precision and scale: the two decimal types have them.
 fn byte_len_digits(t: ByteLen) -> bool
     ensures { λ r. ⌜ r ≡ hasDigits (byteLen (byteLenTold t)) ⌝ }
 {
@@ -44,6 +45,7 @@ pub fn has_digits(t: TypeId) -> bool
     }
 }
 
+// A collation among the types with two length bytes: the four of text.
 fn u_short_len_collation(t: UShortLen) -> bool
     ensures { λ r. ⌜ r ≡ hasCollation (uShortLen (uShortLenTold t)) ⌝ }
 {
@@ -57,6 +59,7 @@ fn u_short_len_collation(t: UShortLen) -> bool
     }
 }
 
+// Among those with four: the two of text.
 fn long_len_collation(t: LongLen) -> bool
     ensures { λ r. ⌜ r ≡ hasCollation (longLen (longLenTold t)) ⌝ }
 {

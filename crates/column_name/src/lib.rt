@@ -22,11 +22,11 @@ use wire::Refusal;
 use wire::Width;
 
 // The bytes of a name that has so many units.
-fn read_units(s: &[u8], at: Cursor, n: u64) -> NameRead
-    requires { ⌜ at .at ≤ length (now s) ⌝ }
-    ensures { λ r. ⌜ (nameReadTold (now (s .entry)) r ≡ readAt (readUnits n) (now (s .entry)) (at .at)) × NameFrom (now (s .entry)) (at .at) r ⌝ }
+fn read_units(s: &[u8], cursor: Cursor, n: u64) -> NameRead
+    requires { ⌜ cursor .at ≤ length (now s) ⌝ }
+    ensures { λ r. ⌜ (nameReadTold (now (s .entry)) r ≡ readAt (readUnits n) (now (s .entry)) (cursor .at)) × NameFrom (now (s .entry)) (cursor .at) r ⌝ }
 {
-    let start = at.at;
+    let start = cursor.at;
     let units = n as usize;
     if (s.len() - start) / 2 < units {
         return NameRead::Refused(Refusal::Missing);
@@ -40,21 +40,21 @@ fn read_units(s: &[u8], at: Cursor, n: u64) -> NameRead
 }
 
 // A name whose units are counted by w bytes.
-fn read_name(s: &[u8], at: Cursor, w: Width) -> NameRead
-    ensures { λ r. ⌜ (nameReadTold (now (s .entry)) r ≡ readAt (readName (widthOf w)) (now (s .entry)) (at .at)) × NameFrom (now (s .entry)) (at .at + widthOf w) r ⌝ }
+fn read_name(s: &[u8], cursor: Cursor, w: Width) -> NameRead
+    ensures { λ r. ⌜ (nameReadTold (now (s .entry)) r ≡ readAt (readName (widthOf w)) (now (s .entry)) (cursor .at)) × NameFrom (now (s .entry)) (cursor .at + widthOf w) r ⌝ }
 {
-    match at.low(s, w) {
+    match cursor.low(s, w) {
         NumberRead::Number(n, next) => read_units(s, next, n),
         NumberRead::Refused(e) => NameRead::Refused(e),
     }
 }
 
 // The third name, behind two that were read.
-fn read_third(s: &[u8], at: Cursor, first: Name, second: Name) -> ColumnRead
+fn read_third(s: &[u8], cursor: Cursor, first: Name, second: Name) -> ColumnRead
     requires { ⌜ NameIn (now s) first × NameIn (now s) second ⌝ }
-    ensures { λ r. ⌜ (columnReadTold (now (s .entry)) r ≡ readAt (readThird (nameBytes (now (s .entry)) first) (nameBytes (now (s .entry)) second)) (now (s .entry)) (at .at)) × ThirdFrom (now (s .entry)) first second (at .at + 2) r ⌝ }
+    ensures { λ r. ⌜ (columnReadTold (now (s .entry)) r ≡ readAt (readThird (nameBytes (now (s .entry)) first) (nameBytes (now (s .entry)) second)) (now (s .entry)) (cursor .at)) × ThirdFrom (now (s .entry)) first second (cursor .at + 2) r ⌝ }
 {
-    match read_name(s, at, Width::Two) {
+    match read_name(s, cursor, Width::Two) {
         NameRead::Name(third, next) => ColumnRead::Column(
             Column {
                 ty: TypeId::Xml,
@@ -71,37 +71,37 @@ fn read_third(s: &[u8], at: Cursor, first: Name, second: Name) -> ColumnRead
 }
 
 // The second name, behind one that was read, and the third.
-fn read_second(s: &[u8], at: Cursor, first: Name) -> ColumnRead
-    requires { ⌜ (at .at ≡ first .start + 2 * first .units) × NameIn (now s) first ⌝ }
-    ensures { λ r. ⌜ (columnReadTold (now (s .entry)) r ≡ readAt (readSecond (nameBytes (now (s .entry)) first)) (now (s .entry)) (at .at)) × NamesFrom (now (s .entry)) (first .start) r ⌝ }
+fn read_second(s: &[u8], cursor: Cursor, first: Name) -> ColumnRead
+    requires { ⌜ (cursor .at ≡ first .start + 2 * first .units) × NameIn (now s) first ⌝ }
+    ensures { λ r. ⌜ (columnReadTold (now (s .entry)) r ≡ readAt (readSecond (nameBytes (now (s .entry)) first)) (now (s .entry)) (cursor .at)) × NamesFrom (now (s .entry)) (first .start) r ⌝ }
 {
-    match read_name(s, at, Width::One) {
+    match read_name(s, cursor, Width::One) {
         NameRead::Name(second, next) => read_third(s, next, first, second),
         NameRead::Refused(e) => ColumnRead::Refused(e),
     }
 }
 
 // The names behind the marker 1; no schema behind any other.
-fn read_schema(s: &[u8], at: Cursor, marker: u8) -> ColumnRead
-    requires { ⌜ at .at ≤ length (now s) ⌝ }
-    ensures { λ r. ⌜ (columnReadTold (now (s .entry)) r ≡ readAt (readSchema marker) (now (s .entry)) (at .at)) × NamesFrom (now (s .entry)) (at .at + 1) r ⌝ }
+fn read_schema(s: &[u8], cursor: Cursor, marker: u8) -> ColumnRead
+    requires { ⌜ cursor .at ≤ length (now s) ⌝ }
+    ensures { λ r. ⌜ (columnReadTold (now (s .entry)) r ≡ readAt (readSchema marker) (now (s .entry)) (cursor .at)) × NamesFrom (now (s .entry)) (cursor .at + 1) r ⌝ }
 {
     if marker == 1 {
-        match read_name(s, at, Width::One) {
+        match read_name(s, cursor, Width::One) {
             NameRead::Name(first, next) => read_second(s, next, first),
             NameRead::Refused(e) => ColumnRead::Refused(e),
         }
     } else {
-        ColumnRead::Column(plain(TypeId::Xml, 0), at)
+        ColumnRead::Column(plain(TypeId::Xml, 0), cursor)
     }
 }
 
 // The marker, and what follows it.
-pub fn read_xml(s: &[u8], at: Cursor) -> ColumnRead
-    ensures told { λ r. ⌜ columnReadTold (now (s .entry)) r ≡ readAt (thenRead readByte readSchema) (now (s .entry)) (at .at) ⌝ }
-    ensures names { λ r. ⌜ NamesFrom (now (s .entry)) (at .at + 2) r ⌝ }
+pub fn read_xml(s: &[u8], cursor: Cursor) -> ColumnRead
+    ensures told { λ r. ⌜ columnReadTold (now (s .entry)) r ≡ readAt (thenRead readByte readSchema) (now (s .entry)) (cursor .at) ⌝ }
+    ensures names { λ r. ⌜ NamesFrom (now (s .entry)) (cursor .at + 2) r ⌝ }
 {
-    match at.byte(s) {
+    match cursor.byte(s) {
         ByteRead::Byte(marker, next) => read_schema(s, next, marker),
         ByteRead::Refused(e) => ColumnRead::Refused(e),
     }

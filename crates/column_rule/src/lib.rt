@@ -11,12 +11,14 @@ use column_type::Name;
 use column_type::Schema;
 use column_type::TypeId;
 
+// Do both tests hold?
 fn both(a: bool, b: bool) -> bool
     ensures { λ r. ⌜ r ≡ both a b ⌝ }
 {
     if a { b } else { false }
 }
 
+// Is a number below a limit?
 fn below(n: u64, limit: u64) -> bool
     ensures { λ r. ⌜ r ≡ ltb n limit ⌝ }
 {
@@ -26,6 +28,7 @@ fn below(n: u64, limit: u64) -> bool
     false
 }
 
+// Are two numbers the same?
 fn same(n: u64, m: u64) -> bool
     ensures { λ r. ⌜ r ≡ eqb n m ⌝ }
 {

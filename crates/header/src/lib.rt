@@ -58,6 +58,7 @@ pub enum HeaderRead {
     Refused(Refusal),
 }
 
+// The byte of a packet type.
 pub fn type_byte(t: PacketType) -> u8
     ensures { λ r. ⌜ r ≡ typeByte t ⌝ }
 {
@@ -76,6 +77,7 @@ pub fn type_byte(t: PacketType) -> u8
     }
 }
 
+// The packet type whose byte it is.
 pub fn type_of(b: u8) -> TypeRead
     ensures { λ r. ⌜ typeTold r ≡ known packetTypes b ⌝ }
 {
@@ -95,6 +97,7 @@ pub fn type_of(b: u8) -> TypeRead
     }
 }
 
+// The byte of a packet status.
 pub fn status_byte(t: PacketStatus) -> u8
     ensures { λ r. ⌜ r ≡ statusByte t ⌝ }
 {
@@ -107,6 +110,7 @@ pub fn status_byte(t: PacketStatus) -> u8
     }
 }
 
+// The packet status whose byte it is.
 pub fn status_of(b: u8) -> StatusRead
     ensures { λ r. ⌜ statusTold r ≡ known packetStatuses b ⌝ }
 {

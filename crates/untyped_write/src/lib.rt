@@ -16,8 +16,8 @@ pub fn write_untyped(v: Value, buffer: &[u8], out: &mut [u8]) -> Wrote
     ensures answer { λ r. ⌜ wroteTold r ≡ wrote (fitted (writeUntyped (valueTold (now (buffer .entry)) v)) (length (now (out .entry)))) ⌝ }
     ensures room { λ _. ⌜ now (out .exit) ≡ roomAfter (fitted (writeUntyped (valueTold (now (buffer .entry)) v)) (length (now (out .entry)))) (now (out .entry)) ⌝ }
 {
-    let needed = untyped_size::untyped_size(v, buffer);
-    match needed {
+    let size = untyped_size::untyped_size(v, buffer);
+    match size {
         Wrote::Bytes(m) => {
             if out.len() < m {
                 return Wrote::Refused(Refusal::Room);

@@ -25,6 +25,7 @@ pub enum Family {
     NotCarried,
 }
 
+// Are two kinds of content the same?
 pub fn same_content(a: ContentKind, b: ContentKind) -> bool
     ensures { λ r. ⌜ r ≡ sameContent (contentKindTold a) (contentKindTold b) ⌝ }
 {
@@ -40,6 +41,7 @@ pub fn same_content(a: ContentKind, b: ContentKind) -> bool
     }
 }
 
+// The forms of the fixed types.
 fn fixed_family(t: FixedLen) -> Family
     ensures { λ r. ⌜ familyTold r ≡ fixedFamily (fixedTold t) ⌝ }
 {
@@ -59,6 +61,7 @@ fn fixed_family(t: FixedLen) -> Family
     }
 }
 
+// Of the types with one length byte.
 fn byte_len_family(t: ByteLen) -> Family
     ensures { λ r. ⌜ familyTold r ≡ byteLenFamily (byteLenTold t) ⌝ }
 {
@@ -77,6 +80,7 @@ fn byte_len_family(t: ByteLen) -> Family
     }
 }
 
+// Of those with two.
 fn u_short_len_family(t: UShortLen) -> Family
     ensures { λ r. ⌜ familyTold r ≡ uShortLenFamily (uShortLenTold t) ⌝ }
 {

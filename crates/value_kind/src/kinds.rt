@@ -30,6 +30,7 @@ pub enum Listed {
     Guids,
 }
 
+// The kind of a value.
 pub fn kind_of(s: Scalar) -> Kind
     ensures { λ r. ⌜ kindTold r ≡ kindOf (scalarTold s) ⌝ }
 {
@@ -47,6 +48,7 @@ pub fn kind_of(s: Scalar) -> Kind
     }
 }
 
+// How many bytes a value of the kind takes.
 pub fn bytes_of(k: Kind) -> usize
     ensures { λ r. ⌜ r ≡ width (kindTold k) ⌝ }
 {
@@ -62,6 +64,7 @@ pub fn bytes_of(k: Kind) -> usize
     }
 }
 
+// The kind's place in the list of kinds.
 fn place_of(k: Kind) -> u8
     ensures { λ r. ⌜ r ≡ place (kindTold k) ⌝ }
 {
@@ -77,6 +80,7 @@ fn place_of(k: Kind) -> u8
     }
 }
 
+// Are two kinds the same?
 pub fn same_kind(a: Kind, b: Kind) -> bool
     ensures { λ r. ⌜ r ≡ sameKind (kindTold a) (kindTold b) ⌝ }
 {
@@ -86,6 +90,7 @@ pub fn same_kind(a: Kind, b: Kind) -> bool
     false
 }
 
+// Is it a kind that Intn lists?
 fn is_integer(k: Kind) -> bool
     ensures { λ r. ⌜ r ≡ isOneOf (listedTold Listed.Integers) (kindTold k) ⌝ }
 {
@@ -101,6 +106,7 @@ fn is_integer(k: Kind) -> bool
     }
 }
 
+// Is it a kind that Floatn lists?
 fn is_float(k: Kind) -> bool
     ensures { λ r. ⌜ r ≡ isOneOf (listedTold Listed.Floats) (kindTold k) ⌝ }
 {

@@ -33,8 +33,8 @@ fn write_in(f: Family, declared: u32, v: Value, buffer: &[u8], out: &mut [u8]) -
     ensures answer { λ r. ⌜ wroteTold r ≡ wrote (fitted (writeFamily declared (familyTold f) (valueTold (now (buffer .entry)) v)) (length (now (out .entry)))) ⌝ }
     ensures room { λ _. ⌜ now (out .exit) ≡ roomAfter (fitted (writeFamily declared (familyTold f) (valueTold (now (buffer .entry)) v)) (length (now (out .entry)))) (now (out .entry)) ⌝ }
 {
-    let needed = size::in_family(f, declared, v, buffer);
-    match needed {
+    let size = size::in_family(f, declared, v, buffer);
+    match size {
         Wrote::Bytes(n) => {
             if out.len() < n {
                 return Wrote::Refused(Refusal::Room);

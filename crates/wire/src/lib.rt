@@ -64,6 +64,7 @@ pub enum GuidRead {
 }
 
 impl Width {
+    // How many bytes a number of the width takes.
     pub fn bytes(self) -> usize
         ensures { λ r. ⌜ r ≡ widthOf self ⌝ }
     {

@@ -22,7 +22,7 @@ read-units-requires c κs =
     let start = after-low .before .before in
     let a = start .args in
     let g = after-n .n .given in
-    next-inside (readLow (widthOf (a .w))) (a .s .now) (a .at .at) (stays-low (widthOf (a .w))) (g .0 .0) (g .0 .1 .0 .at)
+    next-inside (readLow (widthOf (a .w))) (a .s .now) (a .cursor .at) (stays-low (widthOf (a .w))) (g .0 .0) (g .0 .1 .0 .at)
     (sym (after-low .low .ensures .0) ∙ ap numberTold (g .1)) .1
 
 enum-known-e : tie.Need-enum-known-e
@@ -36,9 +36,9 @@ returns c =
     let a = start .args in
     let g = after-n .n .given in
     let e = sym (after-low .low .ensures .0) ∙ ap numberTold (g .1) in
-    let m = low-next (a .s .now) (a .at .at) (widthOf (a .w)) (g .0 .0) (g .0 .1 .0 .at) e in (
+    let m = low-next (a .s .now) (a .cursor .at) (widthOf (a .w)) (g .0 .0) (g .0 .1 .0 .at) e in (
       c .read-units .ensures .0 ∙
-          sym (at-then (readLow (widthOf (a .w))) readUnits (a .s .now) (a .at .at) (stays-low (widthOf (a .w))) (g .0 .0) (g .0 .1 .0 .at) e),
+          sym (at-then (readLow (widthOf (a .w))) readUnits (a .s .now) (a .cursor .at) (stays-low (widthOf (a .w))) (g .0 .0) (g .0 .1 .0 .at) e),
       rw m at
           (c .read-units .ensures .1),
     )
@@ -51,7 +51,7 @@ returns-2 c =
     let a = start .args in
     let g = after-e .e .given in
     let e = sym (after-low .low .ensures .0) ∙ ap numberTold (g .1) in
-    (sym (at-then-stops (readLow (widthOf (a .w))) readUnits (a .s .now) (a .at .at) (refusalTold (g .0 .0)) e), tt)
+    (sym (at-then-stops (readLow (widthOf (a .w))) readUnits (a .s .now) (a .cursor .at) (refusalTold (g .0 .0)) e), tt)
 
 pub read-name-spec : {M : Type 1} → statement M
 read-name-spec =

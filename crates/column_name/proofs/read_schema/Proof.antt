@@ -27,7 +27,7 @@ read-second-requires c κs =
     let start = after-read-name .before .before .before in
     let a = start .args in
     let g = after-first .first .given in
-    let f : NameFrom (a .s .now) (a .at .at + 1) (NR.Name (g .0 .0) (g .0 .1 .0)) = rw (g .1) at (after-read-name .read-name .ensures .1) in
+    let f : NameFrom (a .s .now) (a .cursor .at + 1) (NR.Name (g .0 .0) (g .0 .1 .0)) = rw (g .1) at (after-read-name .read-name .ensures .1) in
     (f .1, f .2)
 
 enum-known-e : tie.Need-enum-known-e
@@ -46,12 +46,12 @@ returns c =
     let g = after-first .first .given in
     let t = g .0 .0 in
     let next = g .0 .1 .0 in
-    let f : NameFrom (a .s .now) (a .at .at + 1) (NR.Name t next) = rw (g .1) at (after-read-name .read-name .ensures .1) in
+    let f : NameFrom (a .s .now) (a .cursor .at + 1) (NR.Name t next) = rw (g .1) at (after-read-name .read-name .ensures .1) in
     let e = sym (after-read-name .read-name .ensures .0) ∙ ap (nameReadTold (a .s .now)) (g .1) in
     let h = eq-eqb (a .marker) schemaMarker (in-if1 .if1 .taken) in (
       c .read-second .ensures .0
-          ∙ sym (at-taken (eqb (a .marker) schemaMarker) (thenRead (readName 1) readSecond) (plain xml 0) (a .s .now) (a .at .at) h
-          ∙ at-then (readName 1) readSecond (a .s .now) (a .at .at) (stays-name 1) (nameBytes (a .s .now) t) (next .at) e),
+          ∙ sym (at-taken (eqb (a .marker) schemaMarker) (thenRead (readName 1) readSecond) (plain xml 0) (a .s .now) (a .cursor .at) h
+          ∙ at-then (readName 1) readSecond (a .s .now) (a .cursor .at) (stays-name 1) (nameBytes (a .s .now) t) (next .at) e),
       rw (f .0) at (c .read-second .ensures .1),
     )
 
@@ -65,8 +65,8 @@ returns-2 c =
     let g = after-e .e .given in
     let e = sym (after-read-name .read-name .ensures .0) ∙ ap (nameReadTold (a .s .now)) (g .1) in
     let h = eq-eqb (a .marker) schemaMarker (in-if1 .if1 .taken) in (
-      sym (at-taken (eqb (a .marker) schemaMarker) (thenRead (readName 1) readSecond) (plain xml 0) (a .s .now) (a .at .at) h
-          ∙ at-then-stops (readName 1) readSecond (a .s .now) (a .at .at) (refusalTold (g .0 .0)) e),
+      sym (at-taken (eqb (a .marker) schemaMarker) (thenRead (readName 1) readSecond) (plain xml 0) (a .s .now) (a .cursor .at) h
+          ∙ at-then-stops (readName 1) readSecond (a .s .now) (a .cursor .at) (refusalTold (g .0 .0)) e),
       tt,
     )
 
@@ -75,7 +75,7 @@ returns-3 c =
     let a = c .before .before .before .args in
     let h = ne-eqb (a .marker) schemaMarker (c .before .if1 .left) in
     let e =
-    at-left (eqb (a .marker) schemaMarker) (thenRead (readName 1) readSecond) (plain xml 0) (a .s .now) (a .at .at) h
+    at-left (eqb (a .marker) schemaMarker) (thenRead (readName 1) readSecond) (plain xml 0) (a .s .now) (a .cursor .at) h
     (c .before .before .before .pre) in
     (rw (c .plain .ensures) (sym e), rw (c .plain .ensures) tt)
 

@@ -25,7 +25,7 @@ read-third-requires c κs =
     let start = after-read-name .before .before in
     let a = start .args in
     let g = after-second .second .given in
-    let f : NameFrom (a .s .now) (a .at .at + 1) (NR.Name (g .0 .0) (g .0 .1 .0)) = rw (g .1) at (after-read-name .read-name .ensures .1) in
+    let f : NameFrom (a .s .now) (a .cursor .at + 1) (NR.Name (g .0 .0) (g .0 .1 .0)) = rw (g .1) at (after-read-name .read-name .ensures .1) in
     (start .pre .1, f .2)
 
 enum-known-e : tie.Need-enum-known-e
@@ -40,12 +40,12 @@ returns c =
     let g = after-second .second .given in
     let t = g .0 .0 in
     let next = g .0 .1 .0 in
-    let f : NameFrom (a .s .now) (a .at .at + 1) (NR.Name t next) = rw (g .1) at (after-read-name .read-name .ensures .1) in
+    let f : NameFrom (a .s .now) (a .cursor .at + 1) (NR.Name t next) = rw (g .1) at (after-read-name .read-name .ensures .1) in
     let e = sym (after-read-name .read-name .ensures .0) ∙ ap (nameReadTold (a .s .now)) (g .1) in (
       c .read-third .ensures .0
           ∙
           sym
-          (at-then (readName 1) (readThird (nameBytes (a .s .now) (a .first))) (a .s .now) (a .at .at) (stays-name 1) (nameBytes (a .s .now) t) (next .at) e),
+          (at-then (readName 1) (readThird (nameBytes (a .s .now) (a .first))) (a .s .now) (a .cursor .at) (stays-name 1) (nameBytes (a .s .now) t) (next .at) e),
       third-names (a .s .now) (a .first) t (next .at + 2) (c .read-third .result) (omega (arith, start .pre .0, f .0)) (omega (arith, f .1))
           (c .read-third .ensures .1),
     )
@@ -58,7 +58,7 @@ returns-2 c =
     let a = start .args in
     let g = after-e .e .given in
     let e = sym (after-read-name .read-name .ensures .0) ∙ ap (nameReadTold (a .s .now)) (g .1) in
-    (sym (at-then-stops (readName 1) (readThird (nameBytes (a .s .now) (a .first))) (a .s .now) (a .at .at) (refusalTold (g .0 .0)) e), tt)
+    (sym (at-then-stops (readName 1) (readThird (nameBytes (a .s .now) (a .first))) (a .s .now) (a .cursor .at) (refusalTold (g .0 .0)) e), tt)
 
 pub read-second-spec : {M : Type 1} → statement M
 read-second-spec =

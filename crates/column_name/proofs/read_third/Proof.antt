@@ -31,11 +31,11 @@ returns c =
     let g = after-third .third .given in
     let t = g .0 .0 in
     let next = g .0 .1 .0 in
-    let f : NameFrom (a .s .now) (a .at .at + 2) (NR.Name t next) = rw (g .1) at (after-read-name .read-name .ensures .1) in
+    let f : NameFrom (a .s .now) (a .cursor .at + 2) (NR.Name t next) = rw (g .1) at (after-read-name .read-name .ensures .1) in
     let e = sym (after-read-name .read-name .ensures .0) ∙ ap (nameReadTold (a .s .now)) (g .1) in
     let w = withNames (nameBytes (a .s .now) (a .first)) (nameBytes (a .s .now) (a .second)) in (
       ap (λ (k : D.Column). took k (next .at)) (names-told (a .s .now) (a .first) (a .second) t (start .pre .0) (start .pre .1) (f .2))
-          ∙ sym (at-map-took w (readName 2) (a .s .now) (a .at .at) (nameBytes (a .s .now) t) (next .at) e),
+          ∙ sym (at-map-took w (readName 2) (a .s .now) (a .cursor .at) (nameBytes (a .s .now) t) (next .at) e),
       (t, refl, f .0, f .2),
     )
 
@@ -48,7 +48,7 @@ returns-2 c =
     let g = after-e .e .given in
     let e = sym (after-read-name .read-name .ensures .0) ∙ ap (nameReadTold (a .s .now)) (g .1) in (
       sym
-          (at-map-stops (withNames (nameBytes (a .s .now) (a .first)) (nameBytes (a .s .now) (a .second))) (readName 2) (a .s .now) (a .at .at) (refusalTold (g .0 .0)) e),
+          (at-map-stops (withNames (nameBytes (a .s .now) (a .first)) (nameBytes (a .s .now) (a .second))) (readName 2) (a .s .now) (a .cursor .at) (refusalTold (g .0 .0)) e),
       tt,
     )
 

@@ -14,7 +14,7 @@ sub-if1 c = search needs
 returns : tie.Need-returns
 returns c =
     let a = c .before .args in
-    (bytes-missing (a .s .now) (a .at .at) (2 * a .n) (omega arith), tt)
+    (bytes-missing (a .s .now) (a .cursor .at) (2 * a .n) (omega arith), tt)
 
 mul-t6 : tie.Need-mul-t6
 mul-t6 c = search needs
@@ -25,8 +25,8 @@ add-t7 c = search needs
 returns-2 : tie.Need-returns-2
 returns-2 c =
     let a = c .before .args in
-    let l : a .at .at + 2 * a .n ≤ length (a .s .now) = omega arith in
-    (bytes-there (a .s .now) (a .at .at) (2 * a .n) l, (refl, refl, l))
+    let l : a .cursor .at + 2 * a .n ≤ length (a .s .now) = omega arith in
+    (bytes-there (a .s .now) (a .cursor .at) (2 * a .n) l, (refl, refl, l))
 
 pub read-units-spec : {M : Type 1} → statement M
 read-units-spec = tie.close (tie.spec sub-if1 returns mul-t6 add-t7 returns-2)

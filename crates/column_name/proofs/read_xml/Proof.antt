@@ -23,7 +23,7 @@ read-schema-requires c κs =
     let after-byte = after-marker .before .before in
     let a = after-byte .before .before .args in
     let g = after-marker .marker .given in
-    next-inside readByte (a .s .now) (a .at .at) stays-byte (g .0 .0) (g .0 .1 .0 .at) (sym (after-byte .byte .ensures) ∙ ap byteTold (g .1)) .1
+    next-inside readByte (a .s .now) (a .cursor .at) stays-byte (g .0 .0) (g .0 .1 .0 .at) (sym (after-byte .byte .ensures) ∙ ap byteTold (g .1)) .1
 
 enum-known-e : tie.Need-enum-known-e
 enum-known-e c = search needs
@@ -35,8 +35,8 @@ returns c =
     let a = after-byte .before .before .args in
     let g = after-marker .marker .given in
     let e = sym (after-byte .byte .ensures) ∙ ap byteTold (g .1) in
-    let p : a .at .at + 2 ≡ g .0 .1 .0 .at + 1 = omega (arith, byte-next (a .s .now) (a .at .at) (g .0 .0) (g .0 .1 .0 .at) e) in (
-      c .read-schema .ensures .0 ∙ sym (at-then readByte readSchema (a .s .now) (a .at .at) stays-byte (g .0 .0) (g .0 .1 .0 .at) e),
+    let p : a .cursor .at + 2 ≡ g .0 .1 .0 .at + 1 = omega (arith, byte-next (a .s .now) (a .cursor .at) (g .0 .0) (g .0 .1 .0 .at) e) in (
+      c .read-schema .ensures .0 ∙ sym (at-then readByte readSchema (a .s .now) (a .cursor .at) stays-byte (g .0 .0) (g .0 .1 .0 .at) e),
       rw p (c .read-schema .ensures .1),
     )
 
@@ -47,7 +47,7 @@ returns-2 c =
     let a = after-byte .before .before .args in
     let g = after-e .e .given in
     let e = sym (after-byte .byte .ensures) ∙ ap byteTold (g .1) in
-    (sym (at-then-stops readByte readSchema (a .s .now) (a .at .at) (refusalTold (g .0 .0)) e), tt)
+    (sym (at-then-stops readByte readSchema (a .s .now) (a .cursor .at) (refusalTold (g .0 .0)) e), tt)
 
 pub read-xml-spec : {M : Type 1} → statement M
 read-xml-spec =

@@ -39,7 +39,7 @@ returns c =
     let make = withScale (typeTold (a .t)) (a .n) in
     let d = sym (then .before .has-digits .ensures) ∙ then .if1 .taken in
     let e = sym (after-read-pair .read-pair .ensures .0 make) ∙ ap (pairTold make) (g .1) in
-    (sym (behind (typeTold (a .t)) (a .n) (a .s .now) (a .at .at) (readPair 1 make) (λ l. rw d) ∙ e), λ p. tt)
+    (sym (behind (typeTold (a .t)) (a .n) (a .s .now) (a .cursor .at) (readPair 1 make) (λ l. rw d) ∙ e), λ p. tt)
 
 returns-2 : tie.Need-returns-2
 returns-2 c =
@@ -51,7 +51,7 @@ returns-2 c =
     let make = withScale (typeTold (a .t)) (a .n) in
     let d = sym (then .before .has-digits .ensures) ∙ then .if1 .taken in
     let e = sym (after-read-pair .read-pair .ensures .0 make) ∙ ap (pairTold make) (g .1) in
-    (sym (behind (typeTold (a .t)) (a .n) (a .s .now) (a .at .at) (readPair 1 make) (λ l. rw d) ∙ e), λ p. tt)
+    (sym (behind (typeTold (a .t)) (a .n) (a .s .now) (a .cursor .at) (readPair 1 make) (λ l. rw d) ∙ e), λ p. tt)
 
 has-collation-requires : tie.Need-has-collation-requires
 has-collation-requires c κs = search needs
@@ -83,7 +83,7 @@ returns-3 c =
     let d = sym (else .before .has-digits .ensures) ∙ else .if1 .left in
     let k = sym (then .before .has-collation .ensures) ∙ then .if2 .taken in
     let e = sym (after-read-pair .read-pair2 .ensures .0 make) ∙ ap (pairTold make) (g .1) in
-    (sym (behind (typeTold (a .t)) (a .n) (a .s .now) (a .at .at) (readPair 4 make) (λ l. rw (d, k)) ∙ e), λ p. tt)
+    (sym (behind (typeTold (a .t)) (a .n) (a .s .now) (a .cursor .at) (readPair 4 make) (λ l. rw (d, k)) ∙ e), λ p. tt)
 
 returns-4 : tie.Need-returns-4
 returns-4 c =
@@ -97,7 +97,7 @@ returns-4 c =
     let d = sym (else .before .has-digits .ensures) ∙ else .if1 .left in
     let k = sym (then .before .has-collation .ensures) ∙ then .if2 .taken in
     let e = sym (after-read-pair .read-pair2 .ensures .0 make) ∙ ap (pairTold make) (g .1) in
-    (sym (behind (typeTold (a .t)) (a .n) (a .s .now) (a .at .at) (readPair 4 make) (λ l. rw (d, k)) ∙ e), λ p. tt)
+    (sym (behind (typeTold (a .t)) (a .n) (a .s .now) (a .cursor .at) (readPair 4 make) (λ l. rw (d, k)) ∙ e), λ p. tt)
 
 plain-requires : tie.Need-plain-requires
 plain-requires c κs = search needs
@@ -110,7 +110,7 @@ returns-5 c =
     let a = start .args in
     let d = sym (else .before .has-digits .ensures) ∙ else .if1 .left in
     let k = sym (last .before .has-collation .ensures) ∙ last .if2 .left in
-    let e = nothing-behind (typeTold (a .t)) (a .n) (a .s .now) (a .at .at) d k (start .pre) in
+    let e = nothing-behind (typeTold (a .t)) (a .n) (a .s .now) (a .cursor .at) d k (start .pre) in
     (rw (c .plain .ensures) (sym e), λ p. rw (c .plain .ensures) tt)
 
 pub read-behind-spec : {M : Type 1} → statement M

@@ -24,7 +24,7 @@ read-type-requires c κs =
     let start = after-byte .before .before in
     let a = start .args in
     let g = after-b .b .given in
-    next-inside readByte (a .s .now) (a .at .at) stays-byte (g .0 .0) (g .0 .1 .0 .at) (sym (after-byte .byte .ensures) ∙ ap byteTold (g .1)) .1
+    next-inside readByte (a .s .now) (a .cursor .at) stays-byte (g .0 .0) (g .0 .1 .0 .at) (sym (after-byte .byte .ensures) ∙ ap byteTold (g .1)) .1
 
 enum-known-e : tie.Need-enum-known-e
 enum-known-e c = search needs
@@ -38,8 +38,8 @@ returns c =
     let a = start .args in
     let g = after-b .b .given in
     let e = sym (after-byte .byte .ensures) ∙ ap byteTold (g .1) in
-    let p : a .at .at + 3 ≡ g .0 .1 .0 .at + 2 = omega (arith, byte-next (a .s .now) (a .at .at) (g .0 .0) (g .0 .1 .0 .at) e) in (
-      c .read-type .ensures .0 ∙ sym (at-then readByte readType (a .s .now) (a .at .at) stays-byte (g .0 .0) (g .0 .1 .0 .at) e),
+    let p : a .cursor .at + 3 ≡ g .0 .1 .0 .at + 2 = omega (arith, byte-next (a .s .now) (a .cursor .at) (g .0 .0) (g .0 .1 .0 .at) e) in (
+      c .read-type .ensures .0 ∙ sym (at-then readByte readType (a .s .now) (a .cursor .at) stays-byte (g .0 .0) (g .0 .1 .0 .at) e),
       rw p
           (c .read-type .ensures .1),
     )
@@ -53,7 +53,7 @@ returns-2 c =
     let a = start .args in
     let g = after-e .e .given in
     let e = sym (after-byte .byte .ensures) ∙ ap byteTold (g .1) in
-    (sym (at-then-stops readByte readType (a .s .now) (a .at .at) (refusalTold (g .0 .0)) e), tt)
+    (sym (at-then-stops readByte readType (a .s .now) (a .cursor .at) (refusalTold (g .0 .0)) e), tt)
 
 pub read-column-spec : {M : Type 1} → statement M
 read-column-spec =

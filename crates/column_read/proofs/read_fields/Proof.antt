@@ -55,54 +55,54 @@ returns c =
     let start = c .before .before .before .before in
     let a = start .args in
     let g = c .before .enum-told .given in
-    let e = fixed-fields (typeTold (a .t)) (a .s .now) (a .at .at) (fixedTold (g .0 .0)) (ap typeTold (g .1)) (start .pre) in
+    let e = fixed-fields (typeTold (a .t)) (a .s .now) (a .cursor .at) (fixedTold (g .0 .0)) (ap typeTold (g .1)) (start .pre) in
     (rw (c .plain .ensures) (sym e), rw (c .plain .ensures) tt)
 
 returns-2 : tie.Need-returns-2
 returns-2 c =
     let a = c .before .before .before .before .args in
     let q = ap typeTold (c .before .enum-told2 .given .1) in
-    let e = sized-fields (typeTold (a .t)) 1 (a .s .now) (a .at .at) (rw q (one (byteLenTold (c .before .enum-told2 .given .0 .0)))) in
-    (c .read-sized .ensures .0 ∙ sym e, c .read-sized .ensures .1 (a .at .at + 2))
+    let e = sized-fields (typeTold (a .t)) 1 (a .s .now) (a .cursor .at) (rw q (one (byteLenTold (c .before .enum-told2 .given .0 .0)))) in
+    (c .read-sized .ensures .0 ∙ sym e, c .read-sized .ensures .1 (a .cursor .at + 2))
 
 returns-3 : tie.Need-returns-3
 returns-3 c =
     let a = c .before .before .before .before .args in
     let q = ap typeTold (c .before .enum-told3 .given .1) in
-    let e = sized-fields (typeTold (a .t)) 2 (a .s .now) (a .at .at) (rw q (two (uShortLenTold (c .before .enum-told3 .given .0 .0)))) in
-    (c .read-sized2 .ensures .0 ∙ sym e, c .read-sized2 .ensures .1 (a .at .at + 2))
+    let e = sized-fields (typeTold (a .t)) 2 (a .s .now) (a .cursor .at) (rw q (two (uShortLenTold (c .before .enum-told3 .given .0 .0)))) in
+    (c .read-sized2 .ensures .0 ∙ sym e, c .read-sized2 .ensures .1 (a .cursor .at + 2))
 
 returns-4 : tie.Need-returns-4
 returns-4 c =
     let a = c .before .before .before .before .args in
     let q = ap typeTold (c .before .enum-told4 .given .1) in
-    let e = sized-fields (typeTold (a .t)) 4 (a .s .now) (a .at .at) (rw q (four (longLenTold (c .before .enum-told4 .given .0 .0)))) in
-    (c .read-sized3 .ensures .0 ∙ sym e, c .read-sized3 .ensures .1 (a .at .at + 2))
+    let e = sized-fields (typeTold (a .t)) 4 (a .s .now) (a .cursor .at) (rw q (four (longLenTold (c .before .enum-told4 .given .0 .0)))) in
+    (c .read-sized3 .ensures .0 ∙ sym e, c .read-sized3 .ensures .1 (a .cursor .at + 2))
 
 returns-5 : tie.Need-returns-5
 returns-5 c =
     let start = c .before .before .before .before in
     let a = start .args in
-    let e = daten-fields (typeTold (a .t)) (a .s .now) (a .at .at) (ap typeTold (c .before .enum-told5 .given .1)) (start .pre) in
+    let e = daten-fields (typeTold (a .t)) (a .s .now) (a .cursor .at) (ap typeTold (c .before .enum-told5 .given .1)) (start .pre) in
     (rw (c .plain2 .ensures) (sym e), rw (c .plain2 .ensures) tt)
 
 returns-6 : tie.Need-returns-6
 returns-6 c =
     let a = c .before .before .before .before .args in
-    let e = xml-fields (typeTold (a .t)) (a .s .now) (a .at .at) (ap typeTold (c .before .enum-told6 .given .1)) in
+    let e = xml-fields (typeTold (a .t)) (a .s .now) (a .cursor .at) (ap typeTold (c .before .enum-told6 .given .1)) in
     (c .read-xml .ensures .0 ∙ sym e, c .read-xml .ensures .1)
 
 returns-7 : tie.Need-returns-7
 returns-7 c =
     let start = c .before .before .before in
     let a = start .args in
-    (sym (udt-fields (typeTold (a .t)) (a .s .now) (a .at .at) (ap typeTold (c .enum-told7 .given .1)) (start .pre)), tt)
+    (sym (udt-fields (typeTold (a .t)) (a .s .now) (a .cursor .at) (ap typeTold (c .enum-told7 .given .1)) (start .pre)), tt)
 
 returns-8 : tie.Need-returns-8
 returns-8 c =
     let start = c .before .before .before in
     let a = start .args in
-    (sym (variant-fields (typeTold (a .t)) (a .s .now) (a .at .at) (ap typeTold (c .enum-told8 .given .1)) (start .pre)), tt)
+    (sym (variant-fields (typeTold (a .t)) (a .s .now) (a .cursor .at) (ap typeTold (c .enum-told8 .given .1)) (start .pre)), tt)
 
 pub read-fields-spec : {M : Type 1} → statement M
 read-fields-spec =

@@ -40,7 +40,7 @@ returns c =
     let last = sym (after-byte .byte .ensures) ∙ ap byteTold (h .1) in
     let below : NumberBelow (256 ^ widthOf (a .w)) (N.Number (g .0 .0) (g .0 .1 .0)) = rw (g .1) at (after-low .low .ensures .1) in (
       λ f. sym
-          (at-then (readLow (widthOf (a .w))) (readLast f) (a .s .now) (a .at .at) (stays-low (widthOf (a .w))) (g .0 .0) (g .0 .1 .0 .at) number
+          (at-then (readLow (widthOf (a .w))) (readLast f) (a .s .now) (a .cursor .at) (stays-low (widthOf (a .w))) (g .0 .0) (g .0 .1 .0 .at) number
           ∙ at-map-took (f (g .0 .0)) readByte (a .s .now) (g .0 .1 .0 .at) (h .0 .0) (h .0 .1 .0 .at) last),
       below,
     )
@@ -56,7 +56,7 @@ returns-2 c =
     let number = sym (after-low .low .ensures .0) ∙ ap numberTold (g .1) in
     let last = sym (after-byte .byte .ensures) ∙ ap byteTold (h .1) in (
       λ f. sym
-          (at-then (readLow (widthOf (a .w))) (readLast f) (a .s .now) (a .at .at) (stays-low (widthOf (a .w))) (g .0 .0) (g .0 .1 .0 .at) number
+          (at-then (readLow (widthOf (a .w))) (readLast f) (a .s .now) (a .cursor .at) (stays-low (widthOf (a .w))) (g .0 .0) (g .0 .1 .0 .at) number
           ∙ at-map-stops (f (g .0 .0)) readByte (a .s .now) (g .0 .1 .0 .at) (refusalTold (h .0 .0)) last),
       tt,
     )
@@ -67,7 +67,7 @@ returns-3 c =
     let a = after-low .before .before .args in
     let g = c .before .e2 .given in
     let number = sym (after-low .low .ensures .0) ∙ ap numberTold (g .1) in
-    (λ f. sym (at-then-stops (readLow (widthOf (a .w))) (readLast f) (a .s .now) (a .at .at) (refusalTold (g .0 .0)) number), tt)
+    (λ f. sym (at-then-stops (readLow (widthOf (a .w))) (readLast f) (a .s .now) (a .cursor .at) (refusalTold (g .0 .0)) number), tt)
 
 pub read-pair-spec : {M : Type 1} → statement M
 read-pair-spec =

@@ -21,7 +21,7 @@ read-behind-requires c κs =
     let a = after-low .before .before .args in
     let g = c .before .n .given in
     let e = sym (after-low .low .ensures .0) ∙ ap numberTold (g .1) in
-    next-inside (readLow (widthOf (a .w))) (a .s .now) (a .at .at) (stays-low (widthOf (a .w))) (g .0 .0) (g .0 .1 .0 .at) e .1
+    next-inside (readLow (widthOf (a .w))) (a .s .now) (a .cursor .at) (stays-low (widthOf (a .w))) (g .0 .0) (g .0 .1 .0 .at) e .1
 
 enum-known-e : tie.Need-enum-known-e
 enum-known-e c = search needs
@@ -34,7 +34,7 @@ returns c =
     let g = after-n .n .given in
     let w = widthOf (a .w) in
     let e = sym (after-low .low .ensures .0) ∙ ap numberTold (g .1) in
-    let then = at-then (readLow w) (readBehind (typeTold (a .t))) (a .s .now) (a .at .at) (stays-low w) (g .0 .0) (g .0 .1 .0 .at) e in
+    let then = at-then (readLow w) (readBehind (typeTold (a .t))) (a .s .now) (a .cursor .at) (stays-low w) (g .0 .0) (g .0 .1 .0 .at) e in
     (c .read-behind .ensures .0 ∙ sym then, c .read-behind .ensures .1)
 
 returns-2 : tie.Need-returns-2
@@ -43,7 +43,7 @@ returns-2 c =
     let a = after-low .before .before .args in
     let g = c .before .e .given in
     let e = sym (after-low .low .ensures .0) ∙ ap numberTold (g .1) in
-    (sym (at-then-stops (readLow (widthOf (a .w))) (readBehind (typeTold (a .t))) (a .s .now) (a .at .at) (refusalTold (g .0 .0)) e), λ p. tt)
+    (sym (at-then-stops (readLow (widthOf (a .w))) (readBehind (typeTold (a .t))) (a .s .now) (a .cursor .at) (refusalTold (g .0 .0)) e), λ p. tt)
 
 pub read-sized-spec : {M : Type 1} → statement M
 read-sized-spec =

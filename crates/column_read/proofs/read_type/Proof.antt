@@ -26,13 +26,13 @@ returns c =
     let a = start .args in
     let g = after-t .t .given in
     let q = sym (after-type-of .type-of .ensures) ∙ ap typeReadTold (g .1) in
-    (c .read-fields .ensures .0 ∙ sym (known-type (a .b) (a .s .now) (a .at .at) (typeTold (g .0 .0)) q), c .read-fields .ensures .1)
+    (c .read-fields .ensures .0 ∙ sym (known-type (a .b) (a .s .now) (a .cursor .at) (typeTold (g .0 .0)) q), c .read-fields .ensures .1)
 
 returns-2 : tie.Need-returns-2
 returns-2 c =
     let a = c .before .before .before .before .args in
     let q = sym (c .before .before .type-of .ensures) ∙ ap typeReadTold (c .enum-told .given .1) in
-    (sym (unknown-type (a .b) (a .s .now) (a .at .at) q (c .before .before .before .before .pre)), tt)
+    (sym (unknown-type (a .b) (a .s .now) (a .cursor .at) q (c .before .before .before .before .pre)), tt)
 
 pub read-type-spec : {M : Type 1} → statement M
 read-type-spec =

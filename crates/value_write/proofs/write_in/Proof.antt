@@ -17,20 +17,20 @@ abbrev asked : tie.Start → Answer (List ℕ)
 asked start = writeFamily (start .args .declared) (familyTold (start .args .f)) (valueTold (start .args .buffer .now) (start .args .v))
 
 -- the size that was found
-found : (c : tie.After-needed) → gives (c .needed .given .0 .0) ≡ wrote (asked (c .before .before .before .before .before))
-found c = sym (ap wroteTold (c .needed .given .1)) ∙ c .before .before .in-family .ensures
+found : (c : tie.After-size) → gives (c .size .given .0 .0) ≡ wrote (asked (c .before .before .before .before .before))
+found c = sym (ap wroteTold (c .size .given .1)) ∙ c .before .before .in-family .ensures
 
 in-family-requires : tie.Need-in-family-requires
 in-family-requires c κs = search needs
 
-enum-known-needed : tie.Need-enum-known-needed
-enum-known-needed c = search needs
+enum-known-size : tie.Need-enum-known-size
+enum-known-size c = search needs
 
 returns : tie.Need-returns
 returns c =
     let sized = c .before .before in
     let start = sized .before .before .before .before .before in
-    sized-short (start .args .out .now) (sized .needed .given .0 .0) (asked start) (found sized) (c .if1 .taken)
+    sized-short (start .args .out .now) (sized .size .given .0 .0) (asked start) (found sized) (c .if1 .taken)
 
 slice-relend-prefix-fill : tie.Need-slice-relend-prefix-fill
 slice-relend-prefix-fill c = search needs
@@ -48,8 +48,8 @@ fill-requires c κs =
     let start = sized .before .before .before .before .before in
     rw (length-take-le _ (start .args .out .now) (roomy .if1 .left)) (found sized)
 
-enum-known-needed-2 : tie.Need-enum-known-needed-2
-enum-known-needed-2 c = search needs
+enum-known-size-2 : tie.Need-enum-known-size-2
+enum-known-size-2 c = search needs
 
 same-length : tie.Need-same-length
 same-length c = search needs
@@ -61,7 +61,7 @@ returns-2 c =
     let sized = roomy .before .before in
     let start = sized .before .before .before .before .before in
     let out = start .args .out .now in
-    let n = sized .needed .given .0 .0 in
+    let n = sized .size .given .0 .0 in
     let after = front-filled (asked start) out _ n (found sized) (filled .fill .ensures) in
     sized-written out n (asked start) _ (found sized) (roomy .if1 .left) after
 
@@ -69,19 +69,19 @@ returns-3 : tie.Need-returns-3
 returns-3 c =
     let refused = c .before in
     let start = refused .before .before .before .before .before in
-    refused-before (asked start) (start .args .out .now) _ (sym (ap wroteTold (refused .needed2 .given .1)) ∙ refused .before .before .in-family .ensures)
+    refused-before (asked start) (start .args .out .now) _ (sym (ap wroteTold (refused .size2 .given .1)) ∙ refused .before .before .in-family .ensures)
 
 pub write-in-spec : {M : Type 1} → statement M
 write-in-spec =
     tie.close
     (tie.spec
     in-family-requires
-    enum-known-needed
+    enum-known-size
     returns
     slice-relend-prefix-fill
     slice-aggregate-fill
     fill-requires
-    enum-known-needed-2
+    enum-known-size-2
     same-length
     returns-2
     returns-3)
