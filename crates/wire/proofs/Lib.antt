@@ -2,6 +2,7 @@ pub mod Laws
 pub mod Reading
 pub mod Writing
 pub mod GuidLaws
+pub mod GuidBack
 pub mod Complement
 pub mod Floats
 pub mod Decided
