@@ -4,6 +4,7 @@
 A sabotage is a file, a text of it, what stands there instead, and what the checks must say. Those of one batch
 are tried together, each by its own words; no proof is needed. Definitions that are changed are the canary of cases/definitions.py.
 """
+import concurrent.futures
 import pathlib
 import shutil
 import subprocess
@@ -122,9 +123,9 @@ def main():
     before = said([]) or ''
     batches = [list(on_pages()), NAMES_AND_LISTS] + [[sabotage] for sabotage in ALONE]
     unnoticed = []
-    for batch in batches:
-        text = said(batch) or ''
-        unnoticed += [s for s in batch if s.told not in text or s.told in before]
+    with concurrent.futures.ThreadPoolExecutor(2) as pool:
+        for batch, text in zip(batches, pool.map(said, batches)):
+            unnoticed += [s for s in batch if s.told not in (text or '') or s.told in before]
     for s in unnoticed:
         print('not noticed: %s: %r for %r' % (s.file, s.new, s.old))
     if unnoticed:
