@@ -3,6 +3,7 @@
 - The public list is what crates/morelquilt hands on, and each call's row says where it is proved,
   what its contract is, and at least two must-fail edits. Its words are the contract's own.
 - Every other `pub fn` of a library stands under "Not public", by its path, its module or its crate.
+- Every must-fail edit changes lines that are there.
 - Every op of the cases is answered by the replay program (cases/ops.txt) or still to come
   (cases/to-come.txt), and replay's lines are as many as the cases of its ops.
 - The files of cases that were handed to the project are those of cases/sums.txt.
@@ -126,6 +127,20 @@ def hidden_faults(page, sources, public):
         yield '%s is on the list "Not public", and has no `pub fn`' % name
 
 
+def edit_faults(root):
+    """A must-fail edit changes lines that are there: each `old:` stands once in its file."""
+    for path in sorted(root.glob('crates/*/must-fail/*.edit')):
+        fields = [line.partition(': ') for line in path.read_text().splitlines() if not line.startswith('#')]
+        file = next((path.parent.parent / text for key, _, text in fields if key == 'file'), None)
+        olds = [text for key, _, text in fields if key == 'old']
+        if file is None or not file.is_file() or not olds:
+            yield '%s names no file, or no line of it' % path.relative_to(root)
+            continue
+        for old in olds:
+            if (times := file.read_text().count(old)) != 1:
+                yield '%s: its old line stands %d times in %s' % (path.relative_to(root), times, file.relative_to(root))
+
+
 def case_faults(root):
     cases = root / 'cases'
     counts = collections.Counter()
@@ -153,4 +168,5 @@ def faults(root):
     sources = Sources(root)
     for fault in public_faults(root, sources):
         yield 'docs/PUBLIC.md: ' + fault
+    yield from edit_faults(root)
     yield from case_faults(root)

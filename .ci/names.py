@@ -21,9 +21,9 @@ from sources import Sources, definitions
 RUST = re.compile(r'[\w./]+\.rs(:\d.*)?')
 SHAPES = [
     ('definition or theorem', re.compile(r'(\w+/(?:specs|proofs)/(?:\w+/)*\w+)\.([^\s./]+)')),
-    ('file', re.compile(r'\.?[\w.*-]+(?:/[\w.*-]+)*/?')),
+    ('file', re.compile(r'(\.?[\w.*-]+(?:/[\w.*-]+)*/?)(?::\d[\d-]*)?')),
     ('definition', re.compile(r'([A-Z]\w*)\.([^\s./:]+)')),
-    ('public call, type or module', re.compile(r'\w+(?:::\w+)+')),
+    ('public call, type or module', re.compile(r'(\w+(?:::\w+)+)(?:\(.*\))?')),
     ('must-fail edit', re.compile(r'(\w+)!(\w+)')),
     ('tag of the cases', re.compile(r'([a-z]+):([\w-]+)')),
 ]
@@ -46,7 +46,7 @@ class Names:
     def shape(self, word):
         for kind, pattern in SHAPES:
             if found := pattern.fullmatch(word):
-                if kind == 'file' and '/' not in word and not word.endswith(FILE_ENDINGS):
+                if kind == 'file' and '/' not in word and not found[1].endswith(FILE_ENDINGS):
                     continue
                 return kind, found
         return None, None
@@ -62,18 +62,18 @@ class Names:
             there = self.defined(self.root / 'crates/format/specs' / (found[1] + '.antt'), found[2])
         elif kind == 'file':
             of_a_crate = word.endswith('/') and word.count('/') == 1
-            there = any(self.root.glob(('crates/*/' if of_a_crate else '') + word))
+            there = any(self.root.glob(('crates/*/' if of_a_crate else '') + found[1]))
         elif kind == 'must-fail edit':
             there = (self.root / 'crates' / found[1] / 'must-fail' / (found[2] + '.edit')).is_file()
         elif kind == 'tag of the cases':
             there = found[1] == 'cases' and found[2] in self.tags
         else:
-            there = self.sources.find(word)
+            there = self.sources.find(found[1])
         return None if there else 'there is no %s %s' % (kind, word)
 
 
 def words(text):
-    """(line number, word) of each word in backquotes, outside of fenced blocks."""
+    """(line number, word) of each word in backquotes, outside of fenced blocks; None where a backquote has no other in its line."""
     fenced = False
     for number, line in enumerate(text.splitlines(), 1):
         if line.lstrip().startswith('```'):
@@ -81,8 +81,9 @@ def words(text):
         elif not fenced:
             if line.count('`') % 2:
                 yield number, None
-            for word in re.findall(r'`([^`]+)`', line):
-                yield number, word
+            for quoted in re.findall(r'`([^`]+)`', line):
+                for word in re.split(r',\s+', quoted):
+                    yield number, word
 
 
 def pages(root):
