@@ -1,12 +1,12 @@
 #!/usr/bin/env python3
 """Tries the definitions of crates/format/specs on the cases: each case is an equation (statements.py) that must hold by computing.
 
-    definitions.py [--ops a,b,c] [--tags a,b,c] [--flip] [--no-canary]
+    definitions.py [--ops a,b,c] [--tags a,b,c] [--flip] [--changed] [--no-canary]
 
 The statements go into a repository of their own, in a temporary folder, beside copies of the definitions (without their proofs), and `rt check` judges
 them. It fails where one statement is refused, and where there are not as many statements as cases. --flip states a wrong answer for every case, to
-see that each is refused. The canary: a second, small run on definitions that are changed (CANARY), whose cases must all be refused, but for one that no
-change touches.
+see that each is refused. --changed tries definitions that are changed (CANARY) on the cases of the changes, and on one that no change touches; a run
+begins with it, the canary, and ends there unless it fails as it must.
 """
 import argparse
 import json
@@ -75,9 +75,16 @@ def cases():
             yield '%s-%s' % (name, case['id']), case
 
 
+def how_many():
+    """The cases that are to be stated: the lines of every file of cases, whatever FILES has."""
+    lines = [line for path in HERE.glob('*.jsonl') for line in path.read_text().splitlines()]
+    return sum(json.loads(line)['op'] not in NOT_OF_THE_FORMAT for line in lines)
+
+
 def chosen(options):
-    every = [(label, case) for label, case in cases() if case['op'] not in NOT_OF_THE_FORMAT]
-    for label, case in every:
+    for label, case in cases():
+        if case['op'] in NOT_OF_THE_FORMAT or options.changed and label not in canary_labels() | {UNTOUCHED}:
+            continue
         if (not options.ops or case['op'] in options.ops.split(',')) and (not options.tags or case['tag'] in options.tags.split(',')):
             yield label, case
 
@@ -137,18 +144,34 @@ def judged(folder):
 
 # ------------------------------------------------------------------ the runs
 
+def canary_labels():
+    return {label for *_, labels in CANARY for label in labels}
+
+
+def change(folder):
+    """The canary's changes, in the copy of the definitions."""
+    for module, old, new, _ in CANARY:
+        path = folder / 'crates/format/specs' / (module + '.antt')
+        text = path.read_text()
+        if text.count(old + '\n') != 1:
+            sys.exit('the canary: %s.antt does not say %s' % (module, old))
+        path.write_text(text.replace(old, new))
+
+
 def try_cases(options):
-    labelled, flip = list(chosen(options)), options.flip
-    lines = sum((HERE / (name + '.jsonl')).read_text().count('\n') for name in FILES)
-    wanted = len(labelled) if options.ops or options.tags else lines - sum(case['op'] in NOT_OF_THE_FORMAT for _, case in cases())
+    labelled = list(chosen(options))
+    part = options.ops or options.tags or options.changed
+    wanted = len(labelled) if part else how_many()
     with tempfile.TemporaryDirectory() as name:
         folder = pathlib.Path(name)
-        lay_out(folder, labelled, PARTS, flip)
+        lay_out(folder, labelled, 1 if options.changed else PARTS, options.flip)
+        if options.changed:
+            change(folder)
         stated = statements(folder)
         if stated != wanted:
             sys.exit('%d cases, %d statements' % (wanted, stated))
         proved, refused, text = judged(folder)
-    if flip:
+    if options.flip:
         print('%d wrong statements, %d refused' % (stated, len(refused)))
         sys.exit(0 if len(refused) == stated else 1)
     if refused or not proved:
@@ -158,22 +181,12 @@ def try_cases(options):
 
 
 def try_canary():
-    """Changed definitions are refused, each by its cases; what no change touches is not."""
-    wanted = {label for *_, labels in CANARY for label in labels}
-    labelled = [(label, case) for label, case in cases() if label in wanted | {UNTOUCHED}]
-    with tempfile.TemporaryDirectory() as name:
-        folder = pathlib.Path(name)
-        lay_out(folder, labelled, 1, False)
-        for module, old, new, _ in CANARY:
-            path = folder / 'crates/format/specs' / (module + '.antt')
-            text = path.read_text()
-            if text.count(old + '\n') != 1:
-                sys.exit('the canary: %s.antt does not say %s' % (module, old))
-            path.write_text(text.replace(old, new))
-        proved, refused, text = judged(folder)
-    if proved or refused != wanted:
-        print(text[-4000:])
-        sys.exit('the canary: %s not refused, %s refused' % (sorted(wanted - refused), sorted(refused - wanted)))
+    """This program, on changed definitions, must fail, by the changes' cases and by no other."""
+    done = subprocess.run([sys.executable, __file__, '--changed'], stdout=subprocess.PIPE, stderr=subprocess.PIPE, text=True)
+    refused = set(done.stderr.strip().rpartition('refused: ')[2].split())
+    if done.returncode != 1 or refused != canary_labels():
+        print(done.stdout, done.stderr)
+        sys.exit('the canary: %s not refused' % sorted(canary_labels() - refused))
     print('the canary: %d changed definitions, each refused' % len(CANARY))
 
 
@@ -181,10 +194,10 @@ def main():
     parser = argparse.ArgumentParser(description=__doc__, formatter_class=argparse.RawDescriptionHelpFormatter)
     parser.add_argument('--ops')
     parser.add_argument('--tags')
-    parser.add_argument('--flip', action='store_true')
-    parser.add_argument('--no-canary', action='store_true')
+    for name in ('--flip', '--changed', '--no-canary'):
+        parser.add_argument(name, action='store_true')
     options = parser.parse_args()
-    if not options.no_canary and not options.flip:
+    if not (options.flip or options.changed or options.no_canary):
         try_canary()
     try_cases(options)
 
