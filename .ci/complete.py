@@ -67,12 +67,16 @@ def row_faults(cells, exported, sources, uses):
         yield '%s asks something of its caller' % call
     said = re.findall(r'[A-Za-z]{3,}', ' '.join(quoted(cells[2])))
     said += [word.rpartition('.')[2] for word in quoted(cells[3])[:1]]
+    if cells[2].startswith('W of ') or 'roomAfter' in contract:
+        said += ['wroteTold', 'wrote', 'fitted', 'roomAfter']
+        if not cells[2].startswith('W of '):
+            yield '%s has a room, and its row does not say W' % call
     for word in said:
         if not re.search(r'\b%s\b' % word, contract):
             yield '%s: its contract does not say %s' % (call, word)
-    if not quoted(cells[4]):
-        yield '%s is decided by nothing' % call
-    edits = set(quoted(cells[5]))
+    if not re.fullmatch(r'`\w+/proofs/[^`]+`', cells[4]):
+        yield '%s is decided by no theorem' % call
+    edits = {word for word in quoted(cells[5]) if '!' in word}
     for edit in sorted(edits):
         crate = edit.partition('!')[0]
         if crate not in {item.path.partition('::')[0]} | uses[item.path.partition('::')[0]]:

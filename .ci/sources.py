@@ -125,7 +125,7 @@ class Sources:
         return found
 
     def contract(self, path):
-        """The `ensures` lines of a call, as they stand in its file."""
+        """The head of a call, with its `requires` and `ensures`, as it stands in its file."""
         crate, *words = path.split('::')
         modules = [word for word in words[:-1] if word[0].islower()]
         owner = words[-2] if len(words) > 1 and words[-2][0].isupper() else None
@@ -133,8 +133,12 @@ class Sources:
         text = (self.crates / crate / 'src' / name).read_text()
         if owner:
             text = re.search(r'(?ms)^impl %s \{.*?^\}' % owner, text)[0]
-        head = re.search(r'(?ms)^ *pub fn %s\(.*?^ *\{$' % words[-1], text)
-        return head[0] if head else ''
+        head = []
+        for line in text[re.search(r'(?m)^ *pub fn %s\(' % words[-1], text).start():].splitlines():
+            head.append(line)
+            if line.endswith('{'):
+                break
+        return '\n'.join(head)
 
 
 def definitions(path):
