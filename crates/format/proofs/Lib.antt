@@ -22,3 +22,4 @@ pub mod Value
 pub mod Normal
 pub mod Writing
 pub mod Marked
+pub mod Pinned

@@ -1,5 +1,6 @@
 // Answers the frames of cases/PROTOCOL.md on standard input, a line for each.
 use replay_packet::numbers;
+use replay_packet::own;
 use replay_packet::packet;
 use replay_packet::texts;
 use replay_say::fields;
@@ -18,6 +19,7 @@ fn in_room(op: u8, frame: &[u8], room: &mut [u8]) {
         0x32 => replay_value::untyped_write(frame, room),
         0x48 => texts::text_in(frame, room),
         0x49 => texts::text_out(frame, room),
+        0x7E => own::self_test(frame, room),
         _ => say::bad(),
     }
 }
@@ -29,6 +31,7 @@ fn without_room(op: u8, frame: &[u8]) -> bool {
         0x28 => replay_type::type_read(frame),
         0x50 => numbers::guid(frame),
         0x51 => numbers::number(frame),
+        0x52 => own::guid_read(frame),
         _ => return false,
     }
     true

@@ -1,6 +1,10 @@
 // The words of an answer's line.
+ghost use mathlib.Core.Path.{_≡_};
 ghost use Prim.Native.Nat.{_<_, _≤_};
 ghost use lib.ListN.{length};
+ghost use Rattle.format.specs.Answer as Answer;
+ghost use Rattle.wire.specs.Told.{refusalTold};
+ghost use Rattle.replay_say.specs.Room.{filled, countOf, changedIn};
 use libc::STDOUT_FILENO;
 use wire::Refusal;
 use wire::Wrote;
@@ -26,7 +30,9 @@ pub fn number(n: u64) {
 }
 
 // Document 01's number of a refusal.
-pub fn refusal(e: Refusal) -> u64 {
+pub fn refusal(e: Refusal) -> u64
+    ensures { λ r. ⌜ r ≡ Answer.number (refusalTold e) ⌝ }
+{
     match e {
         Refusal::Missing => 1,
         Refusal::Unknown => 2,
@@ -109,7 +115,9 @@ pub fn bytes(s: &[u8]) {
 }
 
 // The room before a call.
-pub fn fill(room: &mut [u8]) {
+pub fn fill(room: &mut [u8])
+    ensures { λ _. ⌜ now (room .exit) ≡ filled (length (now (room .entry))) ⌝ }
+{
     let mut i = 0;
     while i < room.len() {
         room[i] = FILLER;
@@ -117,14 +125,24 @@ pub fn fill(room: &mut [u8]) {
     }
 }
 
+// 1 for a byte that is not the filler.
+fn differs(b: u8) -> u64
+    ensures { λ r. ⌜ r ≡ countOf b ⌝ }
+{
+    if b == FILLER {
+        return 0;
+    }
+    1
+}
+
 // How many bytes are not the filler.
-fn changed(room: &[u8]) -> u64 {
+fn changed(room: &[u8]) -> u64
+    ensures { λ r. ⌜ r ≡ changedIn (now (room .entry)) ⌝ }
+{
     let mut n: u64 = 0;
     let mut i = 0;
     while i < room.len() {
-        if room[i] != FILLER {
-            n += 1;
-        }
+        n += differs(room[i]);
         i += 1;
     }
     n

@@ -2,4 +2,5 @@ pub mod Laws
 pub mod Reading
 pub mod Writing
 pub mod GuidLaws
+pub mod GuidBack
 pub mod Decided

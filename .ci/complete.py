@@ -1,0 +1,176 @@
+"""Whether the lists are whole: docs/PUBLIC.md's calls, types and must-fail edits, and the ops of the cases.
+
+- The public list is what crates/morelquilt hands on, and each call's row says where it is proved,
+  what its contract is, and at least two must-fail edits. Its words are the contract's own.
+- Every other `pub fn` of a library stands under "Not public", by its path, its module or its crate.
+- Every must-fail edit changes lines that are there.
+- Every op of the cases is answered by the replay program (cases/ops.txt) or still to come
+  (cases/to-come.txt), and replay's lines are as many as the cases of its ops.
+- The files of cases that were handed to the project are those of cases/sums.txt.
+"""
+import collections
+import hashlib
+import json
+import pathlib
+import re
+
+from sources import Sources
+
+FACADE = 'morelquilt'
+COLUMNS = ['Call', 'Proved as', 'Contract', 'Definition', 'Decided by', 'Must-fail edits']
+# Calls that have fewer than two must-fail edits. The list can only shrink: one that has two by now
+# is a fault too.
+EDITS_OWED = ['morelquilt::Width::bytes']
+
+
+def quoted(text):
+    return re.findall(r'`([^`]+)`', text)
+
+
+class Public:
+    """docs/PUBLIC.md: rows by call, the types, and the names under "Not public"."""
+
+    def __init__(self, text):
+        front, _, behind = text.partition('\n## Not public\n')
+        self.rows, self.titles = [], []
+        for line in front.splitlines():
+            cells = [cell.strip() for cell in line.strip().strip('|').split('|')]
+            if line.startswith('| `%s::' % FACADE):
+                self.rows.append(cells)
+            elif line.startswith('| Call '):
+                self.titles.append(cells)
+        plain = '\n'.join(line for line in front.splitlines() if not line.startswith('|'))
+        self.types = {word for word in quoted(plain) if re.fullmatch(FACADE + r'::[A-Z]\w*', word)}
+        self.hidden = {word for word in quoted(behind) if '::' in word}
+        self.hidden |= {word[len('crates/'):] for word in quoted(behind) if word.startswith('crates/')}
+
+
+def dependencies(root):
+    """Crate to the crates that it lists in crates.txt."""
+    lines = (line.partition('#')[0].strip() for line in (root / 'crates.txt').read_text().splitlines())
+    return {name.strip(): set(rest.split()) for name, _, rest in (line.partition(':') for line in lines if line)}
+
+
+def row_faults(cells, exported, sources, uses):
+    """What is wrong with the row of one call."""
+    if len(cells) != len(COLUMNS):
+        yield 'a row of %d cells' % len(cells)
+        return
+    call = quoted(cells[0])[0]
+    item = exported[call]
+    if quoted(cells[1]) != [item.path]:
+        yield '%s is proved as %s' % (call, item.path)
+    contract = sources.contract(item.path)
+    if 'ensures' not in contract:
+        yield '%s has no contract' % call
+    if 'requires' in contract:
+        yield '%s asks something of its caller' % call
+    said = re.findall(r'[A-Za-z]{3,}', ' '.join(quoted(cells[2])))
+    said += [word.rpartition('.')[2] for word in quoted(cells[3])[:1]]
+    if cells[2].startswith('W of ') or 'roomAfter' in contract:
+        said += ['wroteTold', 'wrote', 'fitted', 'roomAfter']
+        if not cells[2].startswith('W of '):
+            yield '%s has a room, and its row does not say W' % call
+    for word in said:
+        if not re.search(r'\b%s\b' % word, contract):
+            yield '%s: its contract does not say %s' % (call, word)
+    if not re.fullmatch(r'`\w+/proofs/[^`]+`', cells[4]):
+        yield '%s is decided by no theorem' % call
+    edits = {word for word in quoted(cells[5]) if '!' in word}
+    for edit in sorted(edits):
+        crate = edit.partition('!')[0]
+        if crate not in {item.path.partition('::')[0]} | uses[item.path.partition('::')[0]]:
+            yield '%s does not use the crate of %s' % (call, edit)
+    if (len(edits) < 2) != (call in EDITS_OWED):
+        yield '%s has %d must-fail edits' % (call, len(edits)) + (', and is listed as owed' if len(edits) > 1 else '')
+
+
+def public_faults(root, sources):
+    page = Public((root / 'docs/PUBLIC.md').read_text())
+    uses = dependencies(root)
+    exported = sources.exported(FACADE)
+    yield from ('%s hands on %s, which is not public' % (FACADE, name) for name, item in exported.items() if item is None)
+    exported = {name: item for name, item in exported.items() if item}
+    calls = {name for name, item in exported.items() if item.kind == 'call'}
+    listed = [quoted(cells[0])[0] for cells in page.rows]
+    if any(titles != COLUMNS for titles in page.titles):
+        yield 'the table has other columns'
+    for call in sorted(calls ^ set(listed)):
+        yield '%s is %s' % (call, 'not listed' if call in calls else 'listed, and not handed on by crates/' + FACADE)
+    for call, times in collections.Counter(listed).items():
+        if times > 1:
+            yield '%s is listed twice' % call
+    for cells in page.rows:
+        if quoted(cells[0])[0] in calls:
+            yield from row_faults(cells, exported, sources, uses)
+    types = {name for name, item in exported.items() if item.kind == 'type'}
+    for name in sorted(types ^ page.types):
+        yield 'the type %s is %s' % (name, 'not listed' if name in types else 'listed, and not handed on')
+    for call in EDITS_OWED:
+        if call not in calls:
+            yield '%s is owed edits, and is no public call' % call
+    yield from hidden_faults(page, sources, {exported[call].path for call in calls})
+
+
+def hidden_faults(page, sources, public):
+    """The list "Not public" against the `pub fn` of every library."""
+    used = set()
+    for crate in filter(sources.is_library, sources.names()):
+        for path in sources.calls(crate):
+            words = path.split('::')
+            over = {'::'.join(words[:n]) for n in range(1, len(words) + 1)} & page.hidden
+            used |= over
+            if over and path in public:
+                yield '%s is public, and on the list "Not public"' % path
+            if not over and path not in public:
+                yield '%s is a `pub fn` on neither list' % path
+            if 'requires' in sources.contract(path) and 'inner' not in words:
+                yield '%s has a `requires` and stands in no module named inner' % path
+    programs = {name for name in sources.names() if not sources.is_library(name)}
+    for name in sorted(page.hidden - used - programs):
+        yield '%s is on the list "Not public", and has no `pub fn`' % name
+
+
+def edit_faults(root):
+    """A must-fail edit changes lines that are there: each `old:` stands once in its file."""
+    for path in sorted(root.glob('crates/*/must-fail/*.edit')):
+        fields = [line.partition(': ') for line in path.read_text().splitlines() if not line.startswith('#')]
+        file = next((path.parent.parent / text for key, _, text in fields if key == 'file'), None)
+        olds = [text for key, _, text in fields if key == 'old']
+        if file is None or not file.is_file() or not olds:
+            yield '%s names no file, or no line of it' % path.relative_to(root)
+            continue
+        for old in olds:
+            if (times := file.read_text().count(old)) != 1:
+                yield '%s: its old line stands %d times in %s' % (path.relative_to(root), times, file.relative_to(root))
+
+
+def case_faults(root):
+    cases = root / 'cases'
+    counts = collections.Counter()
+    for path in sorted(cases.glob('*.jsonl')):
+        counts.update(json.loads(line)['op'] for line in path.read_text().splitlines())
+    answered, later = ((cases / name).read_text().split() for name in ('ops.txt', 'to-come.txt'))
+    for op in sorted(set(counts) - set(answered) - set(later)):
+        yield 'the op %s is neither in cases/ops.txt nor in cases/to-come.txt' % op
+    for op in sorted(set(answered) & set(later)):
+        yield 'the op %s is in cases/ops.txt and in cases/to-come.txt' % op
+    for op in sorted(set(answered + later) - set(counts)):
+        yield 'the op %s has no case' % op
+    wanted = sum(counts[op] for op in set(answered))
+    lines = (root / 'crates/replay/stdout').read_bytes().count(b'\n')
+    if lines != wanted:
+        yield 'crates/replay/stdout has %d lines, the answered ops have %d cases' % (lines, wanted)
+    for line in (cases / 'sums.txt').read_text().splitlines():
+        digest, name = line.split()
+        if hashlib.sha256((cases / name).read_bytes()).hexdigest() != digest:
+            yield 'cases/%s is not the file that cases/sums.txt names' % name
+
+
+def faults(root):
+    root = pathlib.Path(root)
+    sources = Sources(root)
+    for fault in public_faults(root, sources):
+        yield 'docs/PUBLIC.md: ' + fault
+    yield from edit_faults(root)
+    yield from case_faults(root)

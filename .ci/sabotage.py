@@ -1,0 +1,139 @@
+#!/usr/bin/env python3
+"""The must-fail edits of the checks: each sabotage is applied to a copy of the repository, and .ci/checks.py must name it.
+
+A sabotage is a file, a text of it, what stands there instead, and what the checks must say. Those of one batch
+are tried together, each by its own words; no proof is needed. Definitions that are changed are the canary of cases/definitions.py.
+"""
+import concurrent.futures
+import pathlib
+import shutil
+import subprocess
+import sys
+import tempfile
+from typing import NamedTuple, Optional
+
+ROOT = pathlib.Path(__file__).resolve().parent.parent
+
+
+class Sabotage(NamedTuple):
+    file: str
+    old: str
+    new: Optional[str]      # None: the file is removed
+    told: str
+
+
+# A wrong name of each kind. Each is put on every page.
+WRONG_NAMES = [
+    ('definition', 'Header.readHaeder'),
+    ('definition or theorem', 'format/proofs/Normal.no-such-theorem'),
+    ('definition or theorem', 'header/specs/Told.noSuchDefinition'),
+    ('definition or theorem', 'wire/proofs/Decided.wroteBack'),         # there, but not `pub`
+    ('definition or theorem', 'format/proofs/Codec.again'),             # a record's field, no theorem
+    ('public call, type or module', 'header::nonsense::read_header'),
+    ('public call, type or module', 'header::header_in'),               # private
+    ('public call, type or module', 'wire::Cursor::read_header'),
+    ('public call, type or module', 'morelquilt::inside'),              # public in its crate, not handed on
+    ('must-fail edit', 'header!no_such_edit'),
+    ('tag of the cases', 'cases:no-such-tag'),
+    ('file', 'docs/NO-SUCH-PAGE.md'),
+]
+
+NAMES_AND_LISTS = [
+    # calls and types
+    Sabotage('crates/header/src/lib.rt', 'pub fn type_byte(', 'pub fn stray() {}\n\npub fn type_byte(', 'header::stray is a `pub fn` on neither list'),
+    Sabotage('crates/wire/src/lib.rt', '    pub fn high(', '    pub fn stray(self) {}\n\n    pub fn high(', 'morelquilt::Cursor::stray is not listed'),
+    Sabotage('crates/morelquilt/src/lib.rt', 'pub use header::Header;', 'pub use header::Header;\npub use header::type_of;', 'morelquilt::type_of is not listed'),
+    Sabotage('crates/morelquilt/src/lib.rt', 'pub use text::to_utf8;\n', '', 'morelquilt::to_utf8 is listed, and not handed on'),
+    Sabotage('crates/morelquilt/src/lib.rt', 'pub use wire::Guid;\n', '', 'the type morelquilt::Guid is listed, and not handed on'),
+    Sabotage('crates/prelogin/src/lib.rt', 'pub fn write_prelogin(', 'pub(crate) fn write_prelogin(', 'morelquilt hands on morelquilt::write_prelogin, which is not public'),
+    Sabotage('crates/column_rule/src/lib.rt', 'pub fn names_fit(', 'fn names_fit(', 'there is no public call, type or module column_rule::names_fit'),
+    Sabotage('crates/text_char/src/lib.rt', 'pub fn within(low: u32, high: u32, n: u32) -> bool\n',
+             'pub fn within(low: u32, high: u32, n: u32) -> bool\n    requires { ⌜ low ≤ high ⌝ }\n', 'text_char::within has a `requires`'),
+    Sabotage('crates/text/src/lib.rt', '    ensures { λ r. ⌜ wroteTold r ≡ wrote (textIn (now (s .entry))) ⌝ }\n{', '{', 'morelquilt::utf16_size has no contract'),
+    # docs/PUBLIC.md
+    Sabotage('docs/PUBLIC.md', ', `morelquilt::Span`', '', 'the type morelquilt::Span is not listed'),
+    Sabotage('docs/PUBLIC.md', ', and the modules `wire::signed` (two\'s complement)', ', and the modules', 'wire::signed::of_i16 is a `pub fn` on neither list'),
+    Sabotage('docs/PUBLIC.md', '`wire!byte_other_refusal`, ', '', 'morelquilt::Cursor::byte has 1 must-fail edits'),
+    Sabotage('.ci/complete.py', 'EDITS_OWED = [', "EDITS_OWED = ['morelquilt::Cursor::low', ", 'morelquilt::Cursor::low has 2 must-fail edits, and is listed as owed'),
+    Sabotage('docs/PUBLIC.md', '| `headerTold r ≡ readAt readHeader s at` |', '| `headerTold r ≡ readAt readColumn s at` |', 'its contract does not say readColumn'),
+    Sabotage('docs/PUBLIC.md', '| `column_write::column_size` |', '| `column_write::write_column` |', 'morelquilt::column_size is proved as column_write::column_size'),
+    Sabotage('docs/PUBLIC.md', '`text!room_one_short`, ', '`value_write!room_one_short`, ', 'morelquilt::to_utf16 does not use the crate of value_write!room_one_short'),
+    # edits and crates
+    Sabotage('crates/header/must-fail/id_twice.edit', '', None, 'there is no must-fail edit header!id_twice'),
+    Sabotage('crates/header/must-fail/seven_written.edit', 'old: Wrote::Bytes(8)', 'old: Wrote::Bytes(88)',
+             'crates/header/must-fail/seven_written.edit: its old line stands 0 times'),
+    Sabotage('crates.txt', 'column_rule: column_type wire format lists\n', '', 'crates/column_rule is not listed in crates.txt'),
+    # ops, and the cases that were handed to the project
+    Sabotage('cases/ops.txt', 'type_read\n', '', 'the op type_read is neither in cases/ops.txt nor in cases/to-come.txt'),
+    Sabotage('cases/to-come.txt', '', 'type_write\n', 'the op type_write is in cases/ops.txt and in cases/to-come.txt'),
+    Sabotage('cases/to-come.txt', '', 'no_such_op\n', 'the op no_such_op has no case'),
+    Sabotage('cases/public.jsonl', '"want":{"no":1}', '"want":{"no":2}', 'cases/public.jsonl is not the file that cases/sums.txt names'),
+    Sabotage('cases/rust.jsonl', '{"id":2000003,', '{"id":2900003,', 'cases/rust.jsonl is not the file that cases/sums.txt names'),
+]
+
+# Of stdin, stdout and the cases behind them, each alone.
+BOTH = 'crates/replay/stdin and stdout: not what the cases make'
+ALONE = [
+    Sabotage('crates/replay/stdin', '', '\0', 'crates/replay/stdin: not what the cases make'),
+    Sabotage('crates/replay/stdout', 'ok 8 4 1 32 51 1 0\n', 'ok 8 4 1 32 51 1 1\n', 'crates/replay/stdout: not what the cases make'),
+    Sabotage('crates/replay/stdout', 'ok 8 4 1 32 51 1 0\n', '', 'lines, the answered ops have'),
+    Sabotage('cases/own.jsonl', '"in": "0501002000330100", "want": {"no": 2}', '"in": "0501002000330100", "want": {"no": 1}',
+             'crates/replay/stdout: not what the cases make'),
+    Sabotage('cases/own.jsonl', '"in": "0501002000330100"', '"in": "0901002000330100"', 'crates/replay/stdin: not what the cases make'),
+    Sabotage('cases/own.jsonl', '{"id": 3000001,', '{"id": 3900001, "tag": "own", "op": "number", "width": 3, "in": "00", "want": {"no": 1}}\n{"id": 3000001,',
+             'cases of these ops, and'),
+    Sabotage('cases/own.jsonl', '{"id": 3000001,', '{"id": 3900001, "tag": "own", "op": "number", "width": 1, "in": "", "want": {"no": 1}}\n{"id": 3000001,', BOTH),
+]
+
+
+def copied(folder):
+    shutil.copytree(ROOT, folder, ignore=shutil.ignore_patterns('.git', 'target', '__pycache__'))
+
+
+def apply(folder, sabotage):
+    path = folder / sabotage.file
+    if sabotage.new is None:
+        path.unlink()
+        return
+    text = path.read_bytes()
+    old, new = sabotage.old.encode(), sabotage.new.encode()
+    if old not in text:
+        sys.exit('%s does not say %s' % (sabotage.file, sabotage.old))
+    path.write_bytes(text.replace(old, new, 1) if old else text + new)
+
+
+def said(sabotages):
+    """What the checks say of a copy with these sabotages; None where they pass."""
+    with tempfile.TemporaryDirectory() as name:
+        folder = pathlib.Path(name) / 'copy'
+        copied(folder)
+        for sabotage in sabotages:
+            apply(folder, sabotage)
+        done = subprocess.run([sys.executable, '-B', folder / '.ci/checks.py'], stdout=subprocess.PIPE, stderr=subprocess.STDOUT, text=True)
+        return done.stdout if done.returncode else None
+
+
+def on_pages():
+    """The wrong names on every page, as sabotages at its end."""
+    for page in [ROOT / 'README.md'] + sorted((ROOT / 'docs').glob('*.md')):
+        name = str(page.relative_to(ROOT))
+        last = page.read_text().count('\n')
+        for number, (kind, word) in enumerate(WRONG_NAMES, last + 1):
+            yield Sabotage(name, '', '`%s`\n' % word, '%s:%d: there is no %s %s' % (name, number, kind, word))
+
+
+def main():
+    before = said([]) or ''
+    batches = [list(on_pages()), NAMES_AND_LISTS] + [[sabotage] for sabotage in ALONE]
+    unnoticed = []
+    with concurrent.futures.ThreadPoolExecutor(2) as pool:
+        for batch, text in zip(batches, pool.map(said, batches)):
+            unnoticed += [s for s in batch if s.told not in (text or '') or s.told in before]
+    for s in unnoticed:
+        print('not noticed: %s: %r for %r' % (s.file, s.new, s.old))
+    if unnoticed:
+        sys.exit(1)
+    print('%d sabotages, each noticed' % sum(map(len, batches)))
+
+
+main()
