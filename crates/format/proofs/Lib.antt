@@ -15,6 +15,7 @@ pub mod Codec
 pub mod Scalar
 pub mod Chunks
 pub mod Plp
+pub mod Opening
 pub mod FixedWidth
 pub mod LengthByte
 pub mod Content

@@ -6,7 +6,8 @@ use mathlib.Core.Option.{Option, none, some}
 use lib.ListN.{length, take, drop}
 use lib.Dec.{ltb, eqb}
 use Rattle.lists.specs.Pick.{pick}
-use Rattle.format.specs.Answer.{Answer, gives, refuses, Read, took, stops, missing, long, sequence, refuseIf, stopIf, thenRead, readAt, fittedRead, roomAfterRead}
+use Rattle.format.specs.Answer.{Answer, gives, refuses, Read, took, stops, missing, long, sequence, refuseIf, stopIf, thenRead}
+use Rattle.format.specs.Answer.{readAt, fittedRead, roomAfterRead}
 use Rattle.format.specs.Number.{lowNat, lowBytes, readLow}
 
 -- "Declared 65,535: PLP", the mark.

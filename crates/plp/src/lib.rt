@@ -1,0 +1,161 @@
+// PLP values: the eight bytes, the chunk walk with its allowance, and the chunks joined.
+pub mod inner;
+pub mod rules;
+
+ghost use mathlib.Core.Path.{_≡_};
+ghost use lib.ListN.{length};
+ghost use Rattle.format.specs.Answer.{mapRead};
+ghost use Rattle.format.specs.Plp.{openWalk, takeHead, walkChunks, readPlp, joinPlp, roomAfterJoin};
+ghost use Rattle.plp.specs.Told.{walkTold, openedTold, headedTold, walkedTold, judgedTold, joinedTold, counted};
+use rules::Eight;
+use wire::Cursor;
+use wire::NumberRead;
+use wire::Refusal;
+use wire::Width;
+
+// The total that the eight bytes say, or that they do not.
+pub enum Total {
+    Unknown,
+    Known(u64),
+}
+
+// Where a walk over chunks stands: its place, the content bytes passed, the total, whether an even
+// count is asked, and whether the last zero was taken.
+pub struct Walk {
+    pub at: usize,
+    pub sum: u64,
+    pub total: Total,
+    pub text: bool,
+    pub ended: bool,
+}
+
+// A walk behind the eight bytes; or the place behind a null, which has no chunks.
+pub enum WalkOpened {
+    Walk(Walk),
+    Null(Cursor),
+    Refused(Refusal),
+}
+
+// Where one head leaves a walk.
+pub enum Headed {
+    Walk(Walk),
+    Refused(Refusal),
+}
+
+// Where a walk stands, and how many heads it took.
+pub enum Walked {
+    Walked(Walk, u64),
+    Refused(Refusal),
+}
+
+// A value that keeps the rules: null, or how many content bytes it has and where it ends.
+pub enum Judged {
+    Null,
+    Content(usize, usize),
+    Refused(Refusal),
+}
+
+// A value whose content, so many bytes, stands at the front of the room.
+pub enum Joined {
+    Null(Cursor),
+    Content(usize, Cursor),
+    Refused(Refusal),
+}
+
+// The eight bytes at the cursor, and the walk behind them.
+pub fn open_walk(s: &[u8], from: Cursor, text: bool) -> WalkOpened
+    ensures { λ r. ⌜ openedTold r ≡ openWalk text (now (s .entry)) (from .at) ⌝ }
+{
+    let NumberRead::Number(n, next) = from.low(s, Width::Eight) else {
+        return WalkOpened::Refused(Refusal::Missing);
+    };
+    let eight = rules::eight_of(n);
+    match eight {
+        Eight::Null => WalkOpened::Null(next),
+        Eight::Chunked(total) => {
+            WalkOpened::Walk(Walk {
+                at: next.at,
+                sum: 0,
+                total,
+                text,
+                ended: false,
+            })
+        }
+        Eight::Refused(e) => WalkOpened::Refused(e),
+    }
+}
+
+// One chunk head.
+fn take_head(s: &[u8], w: Walk) -> Headed
+    ensures { λ r. ⌜ headedTold r ≡ takeHead (now (s .entry)) (walkTold w) ⌝ }
+{
+    let at = w.at;
+    if wire::inside(s, at, 4) {
+        let n = wire::inner::low_at(s, at, 4);
+        if n == 0 {
+            return inner::end_of(w);
+        }
+        return inner::chunk_of(s, w, n);
+    }
+    Headed::Refused(Refusal::Missing)
+}
+
+// As many chunk heads as are allowed, or up to the last zero, from whatever state.
+pub fn walk_chunks(s: &[u8], w: Walk, allowed: u64) -> Walked
+    ensures { λ r. ⌜ walkedTold r ≡ walkChunks allowed (now (s .entry)) (walkTold w) ⌝ }
+{
+    let at = w.at;
+    if s.len() < at {
+        return Walked::Refused(Refusal::Missing);
+    }
+    let mut v = w;
+    let mut k: u64 = 0;
+    while k < allowed {
+        let ended = v.ended;
+        if ended {
+            return Walked::Walked(v, k);
+        }
+        let h = take_head(s, v);
+        match h {
+            Headed::Walk(x) => {
+                v = x;
+                k += 1;
+            }
+            Headed::Refused(e) => {
+                return Walked::Refused(e);
+            }
+        }
+    }
+    Walked::Walked(v, k)
+}
+
+// The value that the rest of the input begins with, judged by its heads alone.
+pub fn judge_plp(rest: &[u8], text: bool) -> Judged
+    ensures { λ r. ⌜ judgedTold r ≡ mapRead counted (readPlp text (now (rest .entry))) ⌝ }
+{
+    let opened = open_walk(rest, Cursor { at: 0 }, text);
+    match opened {
+        WalkOpened::Null(c) => Judged::Null,
+        WalkOpened::Refused(e) => Judged::Refused(e),
+        WalkOpened::Walk(w) => {
+            let allowed = rest.len() as u64 + 1;
+            let walked = walk_chunks(rest, w, allowed);
+            match walked {
+                Walked::Walked(x, k) => Judged::Content(x.sum as usize, x.at),
+                Walked::Refused(e) => Judged::Refused(e),
+            }
+        }
+    }
+}
+
+// The value at a place of the input, its chunks joined at the front of the room, and the next place.
+pub fn join_plp(s: &[u8], from: Cursor, text: bool, out: &mut [u8]) -> Joined
+    ensures answer { λ r. ⌜ joinedTold r ≡ mapRead counted (joinPlp text (now (s .entry)) (from .at) (length (now (out .entry)))) ⌝ }
+    ensures room { λ _. ⌜ now (out .exit) ≡ roomAfterJoin text (now (s .entry)) (from .at) (now (out .entry)) ⌝ }
+{
+    let at = from.at;
+    if s.len() < at {
+        return Joined::Refused(Refusal::Missing);
+    }
+    inner::join_in(&s[at..], at, text, out)
+}
