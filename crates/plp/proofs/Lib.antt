@@ -1,3 +1,4 @@
 pub mod Heads
 pub mod Copying
 pub mod Joining
+pub mod Decided
