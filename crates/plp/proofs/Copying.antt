@@ -4,18 +4,17 @@
 -- Assumes nothing.
 use mathlib.Core.Path.{_≡_, refl, ap, sym, _∙_}
 use mathlib.Core.List.{List, [], _++_}
-use mathlib.Core.Bool.{Bool, true, false}
+use mathlib.Core.Bool.{Bool, false}
 use mathlib.Core.Option.{Option, none, some}
 use Prim.Native.Nat.{ℕ, zero, suc, _+_, _-_, _<_, _≤_}
-use native.Mathlib.Nat.{zero-add}
 use native.Mathlib.Omega.{arith}
 use lib.ListN.{length, take, drop, length-drop, length-append}
 use lib.Seq.{length-take-le}
-use Rattle.format.specs.Answer.{Read, took, stops, Answer, gives, refuses}
-use Rattle.format.specs.Plp.{Walk, Walked, lengthAt, opened, walkFrom, joinFrom, joined, readPlp}
+use Rattle.format.specs.Answer.{Read, took, stops, gives}
+use Rattle.format.specs.Plp.{Walk, Walked, lengthAt, opened, walkFrom, joinFrom, readPlp}
 use Rattle.format.proofs.Answer.{no-truth}
-use Rattle.format.proofs.Chunks.{Head, last, chunk, Moved, moved, atEnd, behind, walked, walk-ended, join-ended, join-head}
-use Rattle.format.proofs.Opening.{Content, plp-content}
+use Rattle.format.proofs.Chunks.{Head, last, chunk, atEnd, behind, walked, join-ended, join-head}
+use Rattle.format.proofs.Opening.{plp-content}
 use Rattle.plp.specs.Told.{IsContent, contentIn}
 
 -- a walk over s at a place, not at its end, that comes to its end; and what it joins

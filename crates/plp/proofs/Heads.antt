@@ -6,8 +6,8 @@ use mathlib.Core.Bool.{Bool, true, false}
 use Prim.Native.Nat.{ℕ, suc, _+_, _-_, _<_, _≤_}
 use native.Mathlib.Omega.{arith}
 use lib.ListN.{length, take, drop}
-use lib.Dec.{ltb, eqb}
-use borrow.Author.Tests.{lt-ltb, le-ltb, ltb-true, ltb-false, eq-eqb, ne-eqb}
+use lib.Dec.{ltb}
+use borrow.Author.Tests.{lt-ltb, le-ltb, ltb-true, ltb-false, ne-eqb}
 use Rattle.format.specs.Answer.{Refusal, missing, long, sequence, Answer, gives, refuses, Read, took, stops, stopIf, further, readAt}
 use Rattle.format.specs.Number.{lowNat, readLow}
 use Rattle.format.specs.Plp.{plpBound, Walk, aboveTotal, unlikeTotal, isOdd, endOf, chunkOf, lengthAt, takeHead, Walked, walkFrom, walkChunks}

@@ -1,8 +1,8 @@
 -- A whole value: what judging it says, and what joining it into room answers and leaves in the room.
 -- Judging tells content by its count; that count is the walk's sum, and the chunks joined are as long as that.
 -- Assumes nothing.
-use mathlib.Core.Path.{_≡_, refl, ap, sym, _∙_}
-use mathlib.Core.List.{List, [], _++_}
+use mathlib.Core.Path.{_≡_, ap, sym, _∙_}
+use mathlib.Core.List.{List, _++_}
 use mathlib.Core.Bool.{Bool, true, false}
 use mathlib.Core.Option.{Option, none, some}
 use Prim.Native.Nat.{ℕ, _+_, _<_, _≤_}
@@ -10,7 +10,7 @@ use native.Mathlib.Omega.{arith}
 use lib.ListN.{length, drop}
 use lib.Dec.{ltb}
 use borrow.Author.Tests.{lt-ltb, le-ltb}
-use Rattle.format.specs.Answer.{Refusal, missing, room, Answer, gives, refuses, Read, took, stops, further, mapRead, fittedRead, roomAfterRead}
+use Rattle.format.specs.Answer.{Refusal, missing, room, gives, refuses, Read, took, stops, further, mapRead, fittedRead, roomAfterRead}
 use Rattle.format.specs.Plp.{Walk, Walked, walkFrom, walkChunks, joined, openWalk, readPlp, plpCopied, joinPlp, roomAfterJoin}
 use Rattle.format.proofs.Place.{no-took, map-took, at-behind, at-inside}
 use Rattle.format.proofs.Chunks.{join-sums}

@@ -1,5 +1,5 @@
 -- `plp::join_plp` meets its contract: behind the end refusal 1, else the value that the rest begins with. Assumes nothing.
-use mathlib.Core.Path.{_≡_, ap, sym, _∙_}
+use mathlib.Core.Path.{ap, _∙_}
 use mathlib.Core.List.{List}
 use mathlib.Core.Option.{Option}
 use Prim.Native.Nat.{ℕ}

@@ -1,6 +1,5 @@
 -- `plp::open_walk` meets its contract: the number that the eight bytes are, and what it says. Assumes nothing.
 use mathlib.Core.Path.{_≡_, ap, sym, _∙_}
-use lib.ListN.{drop}
 use borrow.Author.Needs.{needs}
 use Rattle.format.specs.Answer.{took, stops, readAt}
 use Rattle.format.specs.Number.{readLow}

@@ -6,9 +6,9 @@ use native.Mathlib.Omega.{arith}
 use lib.Dec.{ltb}
 use borrow.Author.Needs.{needs}
 use borrow.Author.Tests.{ltb-false}
-use Rattle.format.specs.Plp.{plpBound, aboveTotal}
+use Rattle.format.specs.Plp.{plpBound}
 use Rattle.format.proofs.Plp.{bound-said}
-use Rattle.plp.specs.Told.{totalTold, walkTold}
+use Rattle.plp.specs.Told.{walkTold}
 use Rattle.plp.proofs.Heads.{chunk-long, chunk-above, chunk-missing, chunk-taken}
 use Rattle.plp.proofs.inner.chunk_of.Statement.{statement}
 use Rattle.plp.proofs.inner.chunk_of.Tie as tie

@@ -1,11 +1,10 @@
 -- `plp::inner::copy_chunks` meets its contract. The invariant: the first o bytes of the content stand at the front of the room, and what is left of it is what
 -- a walk from the place joins, one that comes to its end. Assumes nothing.
-use mathlib.Core.Path.{_≡_, refl, sym, _∙_}
+use mathlib.Core.Path.{_≡_, refl, _∙_}
 use Prim.Native.Nat.{_+_, _-_, _≤_}
 use native.Mathlib.Omega.{arith}
 use lib.ListN.{length, drop}
-use borrow.Author.Needs.{needs}
-use Rattle.lists.specs.Put.{putAt, front}
+use Rattle.lists.specs.Put.{front}
 use Rattle.lists.proofs.Front.{front-none, front-end, grown}
 use Rattle.plp.specs.Told.{contentOf}
 use Rattle.plp.proofs.Copying.{Going, Copied, head-there, all-joined, copied, starts}

@@ -1,10 +1,10 @@
 -- `plp::rules::eight_of` meets its contract: the tests are the definition's, in its order. Assumes nothing.
-use mathlib.Core.Path.{_≡_, sym, _∙_}
+use mathlib.Core.Path.{_≡_}
 use mathlib.Core.Bool.{true, false}
 use native.Mathlib.Omega.{arith}
 use lib.Dec.{ltb}
 use borrow.Author.Needs.{needs}
-use borrow.Author.Tests.{lt-ltb, le-ltb, eq-eqb, ne-eqb}
+use borrow.Author.Tests.{lt-ltb, le-ltb, ne-eqb}
 use Rattle.format.specs.Plp.{plpBound, plpNull, plpUnknown}
 use Rattle.plp.proofs.rules.eight_of.Statement.{statement}
 use Rattle.plp.proofs.rules.eight_of.Tie as tie
