@@ -1,6 +1,6 @@
 -- What the definitions of a head and of a walk say once their tests are known: the refusal that comes first, or where the walk stands.
 -- Assumes nothing.
-use mathlib.Core.Path.{_≡_, refl, sym, _∙_}
+use mathlib.Core.Path.{_≡_, refl, ap, sym, _∙_}
 use mathlib.Core.List.{List}
 use mathlib.Core.Bool.{Bool, true, false}
 use Prim.Native.Nat.{ℕ, suc, _+_, _-_, _<_, _≤_}
@@ -11,7 +11,7 @@ use borrow.Author.Tests.{lt-ltb, le-ltb, ltb-true, ltb-false, ne-eqb}
 use Rattle.format.specs.Answer.{Refusal, missing, long, sequence, Answer, gives, refuses, Read, took, stops, stopIf, further, readAt}
 use Rattle.format.specs.Number.{lowNat, readLow}
 use Rattle.format.specs.Plp.{plpBound, Walk, aboveTotal, unlikeTotal, isOdd, endOf, chunkOf, lengthAt, takeHead, Walked, walkFrom, walkChunks}
-use Rattle.format.proofs.Chunks.{atEnd, behind}
+use Rattle.format.proofs.Chunks.{atEnd, behind, walk-ended}
 use Rattle.format.proofs.Place.{at-behind, at-inside}
 
 -- ---- a zero head
@@ -65,27 +65,31 @@ module _ (s : List ℕ) (w : Walk) where
   unfolding takeHead
   head-chunk h n e z = rw (le-ltb (length s) (w .at + 4) h, ← e, ne-eqb n 0 z)
 
--- ---- a walk that has taken k heads of those allowed
+-- ---- a walk that has taken k heads, and is allowed so many more
 
-module _ (allowed k : ℕ) (s : List ℕ) (w : Walk) where
+module _ (left k : ℕ) (s : List ℕ) (w : Walk) where
   abbrev stands : Answer Walked
   stands = gives (record { walk = w; taken = k })
 
-  pub walk-more : (x : Walk) → k < allowed → w .ended ≡ false → takeHead s w ≡ gives x → walkFrom (allowed - k) s w k ≡ walkFrom (allowed - (k + 1)) s x (k + 1)
+  one-more : (a : ℕ) (x : Walk) → w .ended ≡ false → takeHead s w ≡ gives x → walkFrom (suc a) s w k ≡ walkFrom a s x (k + 1)
   unfolding walkFrom
-  walk-more x h d e = let m : allowed - k ≡ suc (allowed - (k + 1)) = omega arith in rw (m, e, d)
+  one-more a x d e = rw (e, d)
 
-  pub walk-refused : (r : Refusal) → k < allowed → w .ended ≡ false → takeHead s w ≡ refuses r → walkFrom (allowed - k) s w k ≡ refuses r
-  unfolding walkFrom
-  walk-refused r h d e = let m : allowed - k ≡ suc (allowed - (k + 1)) = omega arith in rw (m, e, d)
+  pub walk-more : (x : Walk) → 0 < left → w .ended ≡ false → takeHead s w ≡ gives x → walkFrom left s w k ≡ walkFrom (left - 1) s x (k + 1)
+  walk-more x h d e =
+      let m : left ≡ suc (left - 1) = omega arith in
+      ap (λ (n : ℕ). walkFrom n s w k) m ∙ one-more (left - 1) x d e
 
-  pub walk-ended : k < allowed → w .ended ≡ true → walkFrom (allowed - k) s w k ≡ stands
+  pub walk-refused : (r : Refusal) → 0 < left → w .ended ≡ false → takeHead s w ≡ refuses r → walkFrom left s w k ≡ refuses r
   unfolding walkFrom
-  walk-ended h d = let m : allowed - k ≡ suc (allowed - (k + 1)) = omega arith in rw (m, d)
+  walk-refused r h d e = let m : left ≡ suc (left - 1) = omega arith in rw (m, e, d)
 
-  pub walk-spent : allowed ≤ k → walkFrom (allowed - k) s w k ≡ stands
+  pub walk-stays : w .ended ≡ true → walkFrom left s w k ≡ stands
+  walk-stays d = walk-ended s left w k d
+
+  pub walk-spent : left ≤ 0 → walkFrom left s w k ≡ stands
   unfolding walkFrom
-  walk-spent h = let m : allowed - k ≡ 0 = omega arith in rw m
+  walk-spent h = let m : left ≡ 0 = omega arith in rw m
 
 -- "A place behind the input's end is 1 before anything else."
 module _ (allowed : ℕ) (s : List ℕ) (w : Walk) where

@@ -109,24 +109,26 @@ pub fn walk_chunks(s: &[u8], w: Walk, allowed: u64) -> Walked
         return Walked::Refused(Refusal::Missing);
     }
     let mut v = w;
-    let mut k: u64 = 0;
-    while k < allowed {
+    let mut left = allowed;
+    let mut taken: u64 = 0;
+    while 0 < left {
         let ended = v.ended;
         if ended {
-            return Walked::Walked(v, k);
+            return Walked::Walked(v, taken);
         }
         let h = take_head(s, v);
         match h {
             Headed::Walk(x) => {
                 v = x;
-                k += 1;
+                left -= 1;
+                taken += 1;
             }
             Headed::Refused(e) => {
                 return Walked::Refused(e);
             }
         }
     }
-    Walked::Walked(v, k)
+    Walked::Walked(v, taken)
 }
 
 // The value that the rest of the input begins with, judged by its heads alone.
