@@ -5,7 +5,7 @@ ghost use mathlib.Core.Path.{_≡_};
 ghost use Prim.Native.Nat.{ℕ};
 ghost use Rattle.format.specs.Plp.{madeOf, stepped};
 ghost use Rattle.plp.specs.Told.{walkTold};
-ghost use Rattle.plp_walk.specs.Told.{standingTold};
+ghost use Rattle.plp_walk.specs.Told.{standingTold, objectTold};
 use plp::Walk;
 use plp::Walked;
 use wire::Refusal;
@@ -68,7 +68,7 @@ pub fn new<'a>(input: &'a [u8], standing: Standing) -> WalkObject<'a>
 
 // The object, stepped.
 pub fn step<'a>(o: WalkObject<'a>, allowed: u64) -> WalkObject<'a>
-    ensures { λ r. ⌜ (r .input ≡ o .entry .input) × (standingTold (now (o .entry .input)) (r .standing) ≡ stepped allowed (standingTold (now (o .entry .input)) (o .entry .standing))) ⌝ }
+    ensures { λ r. ⌜ (r .input ≡ o .entry .input) × (objectTold r ≡ stepped allowed (objectTold (o .entry))) ⌝ }
 {
     let standing = step_on(o.input, o.standing, allowed);
     WalkObject {
@@ -89,4 +89,11 @@ pub fn report<'a>(o: WalkObject<'a>) -> Standing
     ensures { λ r. ⌜ r ≡ o .entry .standing ⌝ }
 {
     o.standing
+}
+
+// An object made, stepped once and asked, over plain parameters: whoever calls this needs no walk.
+pub fn walk_on(s: &[u8], from: Standing, allowed: u64) -> Standing
+    ensures { λ r. ⌜ standingTold (now (s .entry)) r ≡ stepped allowed (standingTold (now (s .entry)) from) ⌝ }
+{
+    report(step(new(s, from), allowed))
 }

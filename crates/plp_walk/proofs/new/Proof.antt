@@ -97,7 +97,8 @@ module _ {M : Type 1} (𝓤 : URA M) (H : Heap 𝓤) (A : Atoms 𝓤) (W : Given
         -- [_2; …; _1; …; room for _0; …; on entry]
         assigns ! (agg ! (and-then ! (load ! (from ! (stop !)) (look ! 2 refl)) (and-then ! (load ! (from ! (stop !)) (look ! 0 refl)) (no-more !))))
         (from ! (stop !))
-        (init ! 4 refl (LL.lawful (T.the-type α) (T′.the-laws α) 𝓤 H A W .typed made (result ∷ []) (LL.owes (T.the-type α) (T′.the-laws α) made (p, (g, tt))) .0)) $
+        (init ! 4 refl
+        (LL.lawful (T.the-type α) (T′.the-laws α) 𝓤 H A W .typed made (result ∷ []) (LL.owes (T.the-type α) (T′.the-laws α) made (p, (g, tt))) .0)) $
         returns ! (look ! 4 refl) $ forget ! 0 refl $ forget ! 2 refl $ forget ! 4 refl $
         move ! (4 ∷ 5 ∷ []) $ free1 ! $ move ! (2 ∷ 3 ∷ []) $ free1 ! $ free1 ! $ free0 ! $ by ! (exits g))))
 

@@ -1,5 +1,5 @@
--- `plp_walk::step` meets its contract: a walk of its MIR, by hand. The object is taken apart, and `step_on` is called on the slice and on where the walk stands.
--- All that the proof knows of `step_on` is that it meets its contract.
+-- `plp_walk::step` meets its contract: a walk of its MIR, by hand. The object is taken apart, and `step_on` is called on the slice and on where the walk
+-- stands. All that the proof knows of `step_on` is that it meets its contract.
 -- The object is Copy: what it owns is had twice, one copy is kept whole for the exit, and of the other what the input owns goes to the callee, beside the
 -- lifetime's token, which comes back. What the other fields own are facts, made anew.
 -- Assumes nothing.
@@ -168,12 +168,10 @@ module _ {M : Type 1} (𝓤 : URA M) (H : Heap 𝓤) (A : Atoms 𝓤) (W : Given
       owned ! S.the-row (Is S.the-row) (LL.makes S.the-type S′.the-plain 𝓤 H A) r _ g $ move ! (1 ∷ 0 ∷ []) $ by ! (own-put 𝓤 H A W D L 1 vd r mach)
 
   module _ (C : Calls 𝓤 H) (Λ : Loops 𝓤 H) (fm : FmC 𝓤 H (W .laws) C) (known : Triple 𝓤 (C #plp-walk·step-on) (StepOn 𝓤 H A mem run)) where
-    walk : Is (B (κ, tt)) d (mach ∷ [])
+    walk : Holds (hasTy (T′.mir (named 0)) mach) × WT mach → Is (ShrSlice (named 0) κ u8) (d .input) (v ∷ [])
+        → Is S.the-row (d .standing) (stand (d .standing) ∷ [])
         → ent 𝓤 (onEntry 𝓤 H A fn.signature (κ, tt) (q, tt) (d, (n, tt)) at) (WpFn 𝓤 H C Λ code.function (mach ∷ vint w64 n ∷ []) Post)
-    walk p =
-        let wt = LL.lawful D L 𝓤 H A W .typed d (mach ∷ []) p .0 in
-        let fields = LL.owed D L d (mach ∷ []) p in
-        let g = fields .1 .0 in
+    walk wt f g =
         qed W (raw (onEntry 𝓤 H A fn.signature (κ, tt) (q, tt) (d, (n, tt)) at) ∷ []) ∵ enter ! C Λ code.function (mach ∷ vint w64 n ∷ []) _ $
         alloc1 ! (λ l₀. alloc1 ! (λ l₁. alloc1 ! (λ l₂. alloc1 ! (λ l₃. alloc1 ! (λ l₄. alloc1 ! (λ l₅. alloc1 ! (λ l₆. alloc0 ! $ params1 ! $
         pass1 ! (init ! 10 refl wt) $ pass1 ! (init ! 8 refl (tt, record { fits = ok })) $ pass0 ! $
@@ -186,7 +184,7 @@ module _ {M : Type 1} (𝓤 : URA M) (H : Heap 𝓤) (A : Atoms 𝓤) (W : Given
         (and-then ! (load ! (from ! (stop !)) (look ! 6 refl))
         (and-then ! (load ! (from ! (stop !)) (look ! 4 refl)) (and-then ! (load ! (from ! (stop !)) (look ! 10 refl)) (no-more !)))) (λ u.
         use1 W (later (some (λ (r : Standing). ((‵ (flft κ q) ⊛ ‵ ftrue) ⊛ ‵ (S.the-row .own r (u ∷ []))) ⊛
-          raw (ensured 𝓤 H A callee.ended (callee.clauses 𝓤 H A mem run) (κ, tt) (d .input, (d .standing, (n, tt))) tt r)))) (id⊢ 𝓤 _) $ await ! tt $ pick ! (λ r.
+        raw (ensured 𝓤 H A callee.ended (callee.clauses 𝓤 H A mem run) (κ, tt) (d .input, (d .standing, (n, tt))) tt r)))) (id⊢ 𝓤 _) $ await ! tt $ pick ! (λ r.
         split ! $ move ! (1 ∷ []) $ use1 W (raw (fact 𝓤 (Found r))) (said r) $ heard ! (Found r) (λ e. split ! $ move ! (1 ∷ []) $
         -- [where it stands; the token; what the object owns; _6; …; _5; …; _4; …; room for _3; …; _2; …; _1; …; room for _0; …]
         peeks ! S.the-row (Is S.the-row) (shows 𝓤 H A S.the-row) r (u ∷ []) (λ is.
@@ -194,7 +192,7 @@ module _ {M : Type 1} (𝓤 : URA M) (H : Heap 𝓤) (A : Atoms 𝓤) (W : Given
         rewrite ! 8 (λ (z : Val). ‵ (fat fullShare S′.mir l₃ 0 z)) (ap only (LL.tells S.the-type S′.the-laws r (u ∷ []) is)) refl $
         assigns ! (of-opd ! (load ! (from ! (fld ! refl (stop !))) (look-in ! 12 (sub ! 0 refl (whole !))))) (from ! (stop !)) (init ! 2 refl (tt, wt .1 .0)) $
         assigns ! (agg ! (and-then ! (load ! (from ! (stop !)) (look ! 2 refl)) (and-then ! (load ! (from ! (stop !)) (look ! 8 refl)) (no-more !))))
-        (from ! (stop !)) (init ! 14 refl (made-typed (fields .0) r (LL.owes S.the-type S′.the-laws r (LL.owed S.the-type S′.the-laws r _ is)))) $
+        (from ! (stop !)) (init ! 14 refl (made-typed f r (LL.owes S.the-type S′.the-laws r (LL.owed S.the-type S′.the-laws r _ is)))) $
         returns ! (look ! 14 refl) $ forget ! 2 refl $ forget ! 4 refl $ forget ! 6 refl $ forget ! 8 refl $ forget ! 10 refl $ forget ! 12 refl $
         forget ! 14 refl $ move ! (14 ∷ 15 ∷ []) $ free1 ! $ move ! (12 ∷ 13 ∷ []) $ free1 ! $ move ! (10 ∷ 11 ∷ []) $ free1 ! $ move ! (8 ∷ 9 ∷ []) $ free1 ! $
         move ! (6 ∷ 7 ∷ []) $ free1 ! $ move ! (4 ∷ 5 ∷ []) $ free1 ! $ move ! (2 ∷ 3 ∷ []) $ free1 ! $ free0 ! $
@@ -206,7 +204,9 @@ module _ {M : Type 1} (𝓤 : URA M) (H : Heap 𝓤) (A : Atoms 𝓤) (W : Given
   fn-walks C Λ fm known =
       walked 𝓤 H A fn.ended stayed (fn.clauses 𝓤 H A mem run) (WpFn 𝓤 H C Λ code.function)
       (λ κs. (LL.vals (Ds κs) (Ls κs), (uint-vals w64, tt))) (λ κs. (LL.tells (Ds κs) (Ls κs), (uint-tells w64, tt)))
-      (λ κs qs bounds a g are. via 𝓤 _ (fst∗ 𝓤 _ (emp 𝓤)) (walk 𝓤 H A W mem run (κs .0) (qs .0) (a .0) (a .1 .0) (are .1 .0 .1) C Λ fm known (are .0)))
+      (λ κs qs bounds a g are. via 𝓤 _ (fst∗ 𝓤 _ (emp 𝓤)) (walk 𝓤 H A W mem run (κs .0) (qs .0) (a .0) (a .1 .0) (are .1 .0 .1) C Λ fm known
+      (LL.lawful (Ds κs) (Ls κs) 𝓤 H A W .typed (a .0) _ (are .0) .0) (LL.owed (Ds κs) (Ls κs) (a .0) _ (are .0) .0)
+      (LL.owed (Ds κs) (Ls κs) (a .0) _ (are .0) .1 .0)))
 
 fn-meets : {M : Type 1} (𝓤 : URA M) (H : Heap 𝓤) (A : Atoms 𝓤) (W : Given 𝓤 H A) (mem : Memory → SProp 𝓤) (run : Routine → Fun 𝓤) (𝓣 : Tables 𝓤 H)
     → Triple 𝓤 (𝓣 .C #plp-walk·step-on) (StepOn 𝓤 H A mem run)
