@@ -93,7 +93,8 @@ module _ {M : Type 1} (𝓤 : URA M) (H : Heap 𝓤) (A : Atoms 𝓤) (W : Given
         qed W ((‵ (flft κ q) ⊛ ‵ ftrue) ∷ ‵ (owns (B (κ, tt) ∷ []) (d, tt) (mach ∷ [], tt)) ∷ []) ∵ enter ! C Λ code.function (mach ∷ []) _ $
         alloc1 ! (λ l₀. alloc1 ! (λ l₁. alloc0 ! $ params1 ! $
         pass1 ! (init ! 0 refl (LL.lawful (D (κ, tt)) (L (κ, tt)) 𝓤 H A W .typed d (mach ∷ []) p .0)) $ pass0 ! $
-        assigns ! (of-opd ! (load ! (from ! (fld ! refl (fld ! refl (fld ! refl (stop !))))) (look-in ! 0 (sub ! 0 refl (sub ! 0 refl (sub ! 1 refl (whole !)))))))
+        assigns ! (of-opd ! (load ! (from ! (fld ! refl (fld ! refl (fld ! refl (stop !)))))
+        (look-in ! 0 (sub ! 0 refl (sub ! 0 refl (sub ! 1 refl (whole !)))))))
         (from ! (stop !)) (init ! 2 refl (tt, record { fits = known p })) $
         returns ! (look ! 2 refl) $ forget ! 0 refl $ forget ! 2 refl $ move ! (2 ∷ 3 ∷ []) $ free1 ! $ free1 ! $ free0 ! $ by ! (exits (known p))))
 
