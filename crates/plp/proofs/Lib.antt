@@ -1,4 +1,2 @@
 pub mod Heads
-pub mod Copying
-pub mod Joining
 pub mod Decided

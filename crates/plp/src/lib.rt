@@ -1,12 +1,10 @@
-// PLP values: the eight bytes, the chunk walk with its allowance, and the chunks joined.
+// PLP values: the eight bytes and the chunk walk with its allowance.
 pub mod inner;
 pub mod rules;
 
 ghost use mathlib.Core.Path.{_≡_};
-ghost use lib.ListN.{length};
-ghost use Rattle.format.specs.Answer.{mapRead};
-ghost use Rattle.format.specs.Plp.{openWalk, takeHead, walkChunks, readPlp, joinPlp, roomAfterJoin};
-ghost use Rattle.plp.specs.Told.{walkTold, openedTold, headedTold, walkedTold, judgedTold, joinedTold, counted};
+ghost use Rattle.format.specs.Plp.{openWalk, takeHead, walkChunks};
+ghost use Rattle.plp.specs.Told.{walkTold, openedTold, headedTold, walkedTold};
 use rules::Eight;
 use wire::Cursor;
 use wire::NumberRead;
@@ -45,20 +43,6 @@ pub enum Headed {
 // Where a walk stands, and how many heads it took.
 pub enum Walked {
     Walked(Walk, u64),
-    Refused(Refusal),
-}
-
-// A value that keeps the rules: null, or how many content bytes it has and where it ends.
-pub enum Judged {
-    Null,
-    Content(usize, usize),
-    Refused(Refusal),
-}
-
-// A value whose content, so many bytes, stands at the front of the room.
-pub enum Joined {
-    Null(Cursor),
-    Content(usize, Cursor),
     Refused(Refusal),
 }
 
@@ -129,35 +113,4 @@ pub fn walk_chunks(s: &[u8], w: Walk, allowed: u64) -> Walked
         }
     }
     Walked::Walked(v, taken)
-}
-
-// The value that the rest of the input begins with, judged by its heads alone.
-pub fn judge_plp(rest: &[u8], text: bool) -> Judged
-    ensures { λ r. ⌜ judgedTold r ≡ mapRead counted (readPlp text (now (rest .entry))) ⌝ }
-{
-    let opened = open_walk(rest, Cursor { at: 0 }, text);
-    match opened {
-        WalkOpened::Null(c) => Judged::Null,
-        WalkOpened::Refused(e) => Judged::Refused(e),
-        WalkOpened::Walk(w) => {
-            let allowed = rest.len() as u64 + 1;
-            let walked = walk_chunks(rest, w, allowed);
-            match walked {
-                Walked::Walked(x, k) => Judged::Content(x.sum as usize, x.at),
-                Walked::Refused(e) => Judged::Refused(e),
-            }
-        }
-    }
-}
-
-// The value at a place of the input, its chunks joined at the front of the room, and the next place.
-pub fn join_plp(s: &[u8], from: Cursor, text: bool, out: &mut [u8]) -> Joined
-    ensures answer { λ r. ⌜ joinedTold r ≡ mapRead counted (joinPlp text (now (s .entry)) (from .at) (length (now (out .entry)))) ⌝ }
-    ensures room { λ _. ⌜ now (out .exit) ≡ roomAfterJoin text (now (s .entry)) (from .at) (now (out .entry)) ⌝ }
-{
-    let at = from.at;
-    if s.len() < at {
-        return Joined::Refused(Refusal::Missing);
-    }
-    inner::join_in(&s[at..], at, text, out)
 }

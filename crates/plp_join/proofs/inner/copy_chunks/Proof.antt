@@ -1,4 +1,4 @@
--- `plp::inner::copy_chunks` meets its contract. The invariant: the first o bytes of the content stand at the front of the room, and what is left of it is what
+-- `plp_join::inner::copy_chunks` meets its contract. The invariant: the first o bytes of the content stand at the front of the room, and what is left of it is what
 -- a walk from the place joins, one that comes to its end. Assumes nothing.
 use mathlib.Core.Path.{_≡_, refl, _∙_}
 use Prim.Native.Nat.{_+_, _-_, _≤_}
@@ -6,10 +6,10 @@ use native.Mathlib.Omega.{arith}
 use lib.ListN.{length, drop}
 use Rattle.lists.specs.Put.{front}
 use Rattle.lists.proofs.Front.{front-none, front-end, grown}
-use Rattle.plp.specs.Told.{contentOf}
-use Rattle.plp.proofs.Copying.{Going, Copied, head-there, all-joined, copied, starts}
-use Rattle.plp.proofs.inner.copy_chunks.Statement.{statement}
-use Rattle.plp.proofs.inner.copy_chunks.Tie as tie
+use Rattle.plp_join.specs.Told.{contentOf}
+use Rattle.plp_join.proofs.Copying.{Going, Copied, head-there, all-joined, copied, starts}
+use Rattle.plp_join.proofs.inner.copy_chunks.Statement.{statement}
+use Rattle.plp_join.proofs.inner.copy_chunks.Tie as tie
 
 abbrev Inv-loop : tie.InvT-loop
 Inv-loop rest text out₀ at₀ o₀ out at o =

@@ -15,7 +15,7 @@ use Rattle.format.specs.Plp.{Walk, Walked, lengthAt, opened, walkFrom, joinFrom
 use Rattle.format.proofs.Answer.{no-truth}
 use Rattle.format.proofs.Chunks.{Head, last, chunk, atEnd, behind, walked, join-ended, join-head}
 use Rattle.format.proofs.Opening.{plp-content}
-use Rattle.plp.specs.Told.{IsContent, contentIn}
+use Rattle.plp_join.specs.Told.{IsContent, contentIn}
 
 -- a walk over s at a place, not at its end, that comes to its end; and what it joins
 pub record Going (s : List ℕ) (at : ℕ) (left : List ℕ) : Type 0 where

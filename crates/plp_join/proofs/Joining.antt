@@ -15,8 +15,8 @@ use Rattle.format.specs.Plp.{Walk, Walked, walkFrom, walkChunks, joined, openWa
 use Rattle.format.proofs.Place.{no-took, map-took, at-behind, at-inside}
 use Rattle.format.proofs.Chunks.{join-sums}
 use Rattle.format.proofs.Opening.{plp-null, plp-stops, plp-walk, open-inside, stays-plp}
-use Rattle.plp.specs.Told.{counted, IsContent, contentIn}
+use Rattle.plp_join.specs.Told.{counted, IsContent, contentIn}
 use Rattle.plp.proofs.Heads.{walk-inside}
 
 -- ---- judging
 

@@ -1,13 +1,13 @@
--- `plp::judge_plp` meets its contract: a walk opened at the front, and as many heads as there could be. Assumes nothing.
+-- `plp_join::judge_plp` meets its contract: a walk opened at the front, and as many heads as there could be. Assumes nothing.
 use mathlib.Core.Path.{_≡_, ap, sym, _∙_}
 use mathlib.Core.Option.{some}
 use borrow.Author.Needs.{needs}
 use Rattle.format.specs.Answer.{took}
 use Rattle.format.specs.Plp.{openWalk}
 use Rattle.plp.specs.Told.{walkTold, openedTold, walkedTold}
-use Rattle.plp.proofs.Joining.{judge-null, judge-stops, judge-content, judge-refused}
-use Rattle.plp.proofs.judge_plp.Statement.{statement}
-use Rattle.plp.proofs.judge_plp.Tie as tie
+use Rattle.plp_join.proofs.Joining.{judge-null, judge-stops, judge-content, judge-refused}
+use Rattle.plp_join.proofs.judge_plp.Statement.{statement}
+use Rattle.plp_join.proofs.judge_plp.Tie as tie
 
 open-walk-requires : tie.Need-open-walk-requires
 open-walk-requires c κs = search needs

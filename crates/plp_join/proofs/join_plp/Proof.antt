@@ -1,4 +1,4 @@
--- `plp::join_plp` meets its contract: behind the end refusal 1, else the value that the rest begins with. Assumes nothing.
+-- `plp_join::join_plp` meets its contract: behind the end refusal 1, else the value that the rest begins with. Assumes nothing.
 use mathlib.Core.Path.{ap, _∙_}
 use mathlib.Core.List.{List}
 use mathlib.Core.Option.{Option}
@@ -7,10 +7,10 @@ use borrow.Author.Needs.{needs}
 use Rattle.lists.proofs.Lent.{rest-is}
 use Rattle.format.specs.Answer.{Read, mapRead, roomAfterRead}
 use Rattle.format.specs.Plp.{plpCopied, roomAfterJoin}
-use Rattle.plp.specs.Told.{counted}
-use Rattle.plp.proofs.Joining.{join-behind, join-inside}
-use Rattle.plp.proofs.join_plp.Statement.{statement}
-use Rattle.plp.proofs.join_plp.Tie as tie
+use Rattle.plp_join.specs.Told.{counted}
+use Rattle.plp_join.proofs.Joining.{join-behind, join-inside}
+use Rattle.plp_join.proofs.join_plp.Statement.{statement}
+use Rattle.plp_join.proofs.join_plp.Tie as tie
 
 returns : tie.Need-returns
 returns c =

@@ -1,14 +1,14 @@
--- `plp::inner::join_in` meets its contract: judged first, then the room, then the copy, which cannot fail. Assumes nothing.
+-- `plp_join::inner::join_in` meets its contract: judged first, then the room, then the copy, which cannot fail. Assumes nothing.
 use mathlib.Core.Path.{_≡_, ap, sym, _∙_}
 use mathlib.Core.Option.{none, some}
 use native.Mathlib.Omega.{arith}
 use borrow.Author.Needs.{needs}
 use Rattle.format.specs.Answer.{took, mapRead}
 use Rattle.format.specs.Plp.{readPlp}
-use Rattle.plp.specs.Told.{counted, judgedTold}
-use Rattle.plp.proofs.Joining.{counted-content, judged-inside, joins-null, joins-stops, joins-short, joins-content}
-use Rattle.plp.proofs.inner.join_in.Statement.{statement}
-use Rattle.plp.proofs.inner.join_in.Tie as tie
+use Rattle.plp_join.specs.Told.{counted, judgedTold}
+use Rattle.plp_join.proofs.Joining.{counted-content, judged-inside, joins-null, joins-stops, joins-short, joins-content}
+use Rattle.plp_join.proofs.inner.join_in.Statement.{statement}
+use Rattle.plp_join.proofs.inner.join_in.Tie as tie
 
 judge-plp-requires : tie.Need-judge-plp-requires
 judge-plp-requires c κs = search needs
