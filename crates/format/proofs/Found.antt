@@ -1,5 +1,6 @@
 -- Content that was read is where it is said to stand: the part of the input behind a value's two length bytes, or the part of the room behind what was copied
--- before it. `found-stands` for one value at a place, `read-stands` for one value and its room, `row-stands` for a row, one column after another.
+-- before it. `found-stands` for one value at a place, `read-stands` for one value and its room, `row-stands` for the columns of a row,
+-- one after another, `read-row-stands` for a row and its room.
 -- A short value's content is the bytes behind its length; a PLP value's is what is copied out, and the room holds that behind the columns before it.
 -- Assumes nothing.
 use mathlib.Core.Path.{_≡_, refl, ap, sym, _∙_}
@@ -21,7 +22,7 @@ use Rattle.format.specs.Scalar.{Kind, readScalar}
 use Rattle.format.specs.Plp.{plpMark, isOdd}
 use Rattle.format.specs.Value.{Value, ContentKind, Family, fixedWidth, lengthByte, content, familyOf, isText, contentValue, ofWidth, readWidth}
 use Rattle.format.specs.Value.{readLengthByte, shortNull, readShort, readFamily, readValue, contentOf, isPlp, copiedOut}
-use Rattle.format.specs.Row.{consRead, readValues, copiedOutRow}
+use Rattle.format.specs.Row.{maxColumns, consRead, readValues, readRow, copiedOutRow}
 use Rattle.format.specs.Found.{Stand, inInput, inRoom, Found, foundOf, foundRow, partOrEmpty, handedBack}
 use Rattle.format.proofs.Place.{past, no-took, took-at, at-took, next-inside, then-took, map-took, stays-low, stays-bytes}
 use Rattle.format.proofs.Plain.{low-took, bytes-took}
@@ -179,20 +180,22 @@ found-stands d s at (Value.scalar v) next h room before after e = refl
 found-stands d s at (Value.binary c) next h room before after e = either d s at (Value.binary c) next h room before after e c refl refl (isPlp d) refl
 found-stands d s at (Value.string c) next h room before after e = either d s at (Value.string c) next h room before after e c refl refl (isPlp d) refl
 
+-- what was read with a room was read
+fits : {X : Type 0} (copied : X → List ℕ) (size : ℕ) (r : Read X) (x : X) (next : ℕ) → fittedRead copied r size ≡ took x next → r ≡ took x next
+unfolding fittedRead
+fits copied size (took y n) x next h = past (ltb size (length (copied y))) _ (took y n) x next h .1
+fits copied size (stops e) x next h = h
+
 -- a value and its room: the room after the read holds what the value copies at its front
 module _ (d : Column) (s : List ℕ) (at : ℕ) (v : Value) (next : ℕ) (out : List ℕ) where
-  abbrev reads : Read Value
-  reads = fittedRead (copiedOut d) (readAt (readValue d) s at) (length out)
+  abbrev read : Read Value
+  read = fittedRead (copiedOut d) (readAt (readValue d) s at) (length out)
 
-  fits : (r : Read Value) → fittedRead (copiedOut d) r (length out) ≡ took v next → r ≡ took v next
-  unfolding fittedRead
-  fits (took w n) h = past (ltb (length out) (length (copiedOut d w))) _ (took w n) v next h .1
-  fits (stops e) h = h
-
-  pub read-stands : reads ≡ took v next → Stands s (roomAfterRead (copiedOut d) reads out) (foundOf d at 0 v) v
+  pub read-stands : read ≡ took v next → Stands s (roomAfterRead (copiedOut d) read out) (foundOf d at 0 v) v
   unfolding roomAfterRead
   read-stands h =
-      found-stands d s at v next (fits (readAt (readValue d) s at) h) (roomAfterRead (copiedOut d) reads out) [] (drop (length (copiedOut d v)) out) (rw h)
+      let e = fits (copiedOut d) (length out) (readAt (readValue d) s at) v next h in
+      found-stands d s at v next e (roomAfterRead (copiedOut d) read out) [] (drop (length (copiedOut d v)) out) (rw h)
 
 -- ---- a row: each column at its own place
 
@@ -231,3 +234,21 @@ row-stands (d ∷ ds) s at vs next h room before after e =
     let one = found-stands d s at v (p .1) (p .3) room before (copiedOutRow ds rest ++ after) g in
     let others = row-stands ds s (p .1) rest next (p .4) room (before ++ c) after k in
     rw (← p .5, p .3) (one, rw (length-append before c) at others)
+
+-- the whole row and its room
+module _ (ds : List Column) (s : List ℕ) (at : ℕ) (vs : List Value) (next : ℕ) (out : List ℕ) where
+  abbrev readOut : Read (List Value)
+  readOut = fittedRead (copiedOutRow ds) (readAt (readRow ds) s at) (length out)
+
+  columns : readAt (readRow ds) s at ≡ took vs next → readAt (readValues ds) s at ≡ took vs next
+  unfolding readRow
+  columns h =
+      let p = took-at (readRow ds) s at vs next h in
+      let q = past (ltb maxColumns (length ds)) rule (readValues ds (drop at s)) vs (p .1) (p .2) in
+      at-took (readValues ds) s at vs (p .1) (p .0) (q .1) ∙ ap (took vs) (p .3)
+
+  pub read-row-stands : readOut ≡ took vs next → AllStand s (roomAfterRead (copiedOutRow ds) readOut out) (foundRow ds s at 0) vs
+  unfolding roomAfterRead
+  read-row-stands h =
+      let e = columns (fits (copiedOutRow ds) (length out) (readAt (readRow ds) s at) vs next h) in
+      row-stands ds s at vs next e (roomAfterRead (copiedOutRow ds) readOut out) [] (drop (length (copiedOutRow ds vs)) out) (rw h)

@@ -1,5 +1,5 @@
--- `plp_join::inner::copy_chunks` meets its contract. The invariant: the first o bytes of the content stand at the front of the room, and what is left of it is what
--- a walk from the place joins, one that comes to its end. Assumes nothing.
+-- `plp_join::inner::copy_chunks` meets its contract. The invariant: the first o bytes of the content stand at the front of the room, and what is left of
+-- it is what a walk from the place joins, one that comes to its end. Assumes nothing.
 use mathlib.Core.Path.{_≡_, refl, _∙_}
 use Prim.Native.Nat.{_+_, _-_, _≤_}
 use native.Mathlib.Omega.{arith}
