@@ -1,6 +1,6 @@
 // PLP values: the eight bytes and the chunk walk with its allowance.
 pub mod inner;
-pub mod rules;
+mod rules;
 
 ghost use mathlib.Core.Path.{_≡_};
 ghost use Rattle.format.specs.Plp.{openWalk, takeHead, walkChunks};
