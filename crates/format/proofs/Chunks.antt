@@ -117,7 +117,7 @@ module _ (s : List ℕ) where
   join-head a w x e h = rw (head-takes s w x h, e)
 
   -- what a walk of one head and more came to: it stood at its end, or it took a head
-  walked : {P : Type 0} (a : ℕ) (w : Walk) (k : ℕ) (x : Walked) →
+  pub walked : {P : Type 0} (a : ℕ) (w : Walk) (k : ℕ) (x : Walked) →
       (w .ended ≡ true → w ≡ x .walk → P) →
       ((y : Walk) → w .ended ≡ false → Head s w y → walkFrom a s y (k + 1) ≡ gives x → P) →
       walkFrom (suc a) s w k ≡ gives x → P

@@ -15,6 +15,11 @@ pub mod Codec
 pub mod Scalar
 pub mod Chunks
 pub mod Plp
+pub mod Opening
+pub mod More
+pub mod MoreChunks
+pub mod MoreReaders
+pub mod Found
 pub mod FixedWidth
 pub mod LengthByte
 pub mod Content

@@ -178,7 +178,7 @@ head-count a s h n =
     (λ _ e. let p = past (ltb plpBound a) long (took (chunked (some a)) 0) h n e in cc (p .1)))
 
 -- the eight bytes took eight
-eight : (s : List ℕ) (h : PlpHead) (n : ℕ) → readPlpHead s ≡ took h n → (n ≡ 8) × (8 ≤ length s)
+pub eight : (s : List ℕ) (h : PlpHead) (n : ℕ) → readPlpHead s ≡ took h n → (n ≡ 8) × (8 ≤ length s)
 unfolding readPlpHead
 eight s h n e =
     let p = then-took (readLow 8) headOf s h n e in

@@ -8,5 +8,6 @@ pub mod Descriptor
 pub mod Scalar
 pub mod Plp
 pub mod Value
+pub mod Found
 pub mod Row
 pub mod Normal

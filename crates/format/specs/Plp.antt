@@ -7,6 +7,7 @@ use lib.ListN.{length, take, drop}
 use lib.Dec.{ltb, eqb}
 use Rattle.lists.specs.Pick.{pick}
 use Rattle.format.specs.Answer.{Answer, gives, refuses, Read, took, stops, missing, long, sequence, refuseIf, stopIf, thenRead}
+use Rattle.format.specs.Answer.{readAt, fittedRead, roomAfterRead}
 use Rattle.format.specs.Number.{lowNat, lowBytes, readLow}
 
 -- "Declared 65,535: PLP", the mark.
@@ -113,13 +114,47 @@ unfoldable pub joinFrom : ℕ → List ℕ → Walk → List ℕ
 joinFrom zero s w = []
 joinFrom (suc allowed) s w = pick (w .ended) [] (onJoin s w (joinFrom allowed s) (takeHead s w))
 
--- A walk starts behind the eight bytes.
-abbrev pub opened : Option ℕ → Bool → Walk
-opened total text = record { at = 8; sum = 0; total = total; text = text; ended = false }
+-- The chunks joined from a walk's state on. More heads than there are bytes are never met.
+abbrev pub joined : List ℕ → Walk → List ℕ
+joined s w = joinFrom (length s + 1) s w
 
--- A PLP value: its content, or none for null. More heads than there are bytes are never met.
+-- "It starts behind the eight bytes": a walk that has passed nothing, at a place.
+abbrev pub openedAt : Option ℕ → Bool → ℕ → Walk
+openedAt total text at = record { at = at; sum = 0; total = total; text = text; ended = false }
+
+abbrev pub opened : Option ℕ → Bool → Walk
+opened total text = openedAt total text 8
+
+-- Opening a walk: the eight bytes at a place of the input, and the walk behind them. "All FF is null": no chunks follow, so no walk.
+-- "The total's bound is judged with the eight bytes."
+abbrev pub walkBehind : Bool → Read PlpHead → Read (Option Walk)
+walkBehind text (took isNull next) = took none next
+walkBehind text (took (chunked total) next) = took (some (openedAt total text next)) next
+walkBehind text (stops e) = stops e
+
+unfoldable pub openWalk : Bool → List ℕ → ℕ → Read (Option Walk)
+openWalk text s at = walkBehind text (readAt readPlpHead s at)
+
+-- "For callers there is also a walk object that keeps the lent input and its place": the input, where the walk stands in it, and what the last
+-- step reported: "how many it took", or its refusal, which changes nothing else.
+pub record WalkObject : Type 0 where
+  pub input : List ℕ
+  pub walk : Walk
+  pub said : Answer ℕ
+
+abbrev pub madeOf : List ℕ → Walk → WalkObject
+madeOf s w = record { input = s; walk = w; said = gives 0 }
+
+abbrev pub movedBy : WalkObject → Answer Walked → WalkObject
+movedBy o (gives x) = record { input = o .input; walk = x .walk; said = gives (x .taken) }
+movedBy o (refuses e) = record { input = o .input; walk = o .walk; said = refuses e }
+
+unfoldable pub stepped : ℕ → WalkObject → WalkObject
+stepped allowed o = movedBy o (walkChunks allowed (o .input) (o .walk))
+
+-- A PLP value: its content, or none for null.
 abbrev pub joinedOf : List ℕ → Walk → Answer Walked → Read (Option (List ℕ))
-joinedOf s w (gives x) = took (some (joinFrom (length s + 1) s w)) (x .walk .at)
+joinedOf s w (gives x) = took (some (joined s w)) (x .walk .at)
 joinedOf s w (refuses e) = stops e
 
 abbrev pub readChunks : Bool → List ℕ → Read PlpHead → Read (Option (List ℕ))
@@ -129,6 +164,18 @@ readChunks text s (stops e) = stops e
 
 unfoldable pub readPlp : Bool → List ℕ → Read (Option (List ℕ))
 readPlp text s = readChunks text s (readPlpHead s)
+
+-- "PLP content is the chunks joined, copied out": what a PLP value needs of the room.
+abbrev pub plpCopied : Option (List ℕ) → List ℕ
+plpCopied none = []
+plpCopied (some content) = content
+
+-- A PLP value at a place of the input, its chunks joined at the front of a room of so many bytes; and the room afterwards.
+unfoldable pub joinPlp : Bool → List ℕ → ℕ → ℕ → Read (Option (List ℕ))
+joinPlp text s at size = fittedRead plpCopied (readAt (readPlp text) s at) size
+
+unfoldable pub roomAfterJoin : Bool → List ℕ → ℕ → List ℕ → List ℕ
+roomAfterJoin text s at out = roomAfterRead plpCopied (joinPlp text s at (length out)) out
 
 -- "The writer uses unknown length and one chunk; empty content is the zero length alone."
 abbrev pub chunkBytes : List ℕ → List ℕ

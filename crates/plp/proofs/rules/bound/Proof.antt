@@ -1,0 +1,12 @@
+-- `plp::rules::bound` meets its contract: the bound's one name. Assumes nothing.
+use mathlib.Core.Path.{refl}
+use Rattle.format.specs.Plp.{plpBound}
+use Rattle.plp.proofs.rules.bound.Statement.{statement}
+use Rattle.plp.proofs.rules.bound.Tie as tie
+
+returns : tie.Need-returns
+unfolding plpBound
+returns c = refl
+
+pub bound-spec : {M : Type 1} → statement M
+bound-spec = tie.close (tie.spec returns)
