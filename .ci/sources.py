@@ -134,7 +134,7 @@ class Sources:
         if owner:
             text = re.search(r'(?ms)^impl %s \{.*?^\}' % owner, text)[0]
         head = []
-        for line in text[re.search(r'(?m)^ *pub fn %s\(' % words[-1], text).start():].splitlines():
+        for line in text[re.search(r'(?m)^ *pub fn %s[(<]' % words[-1], text).start():].splitlines():
             head.append(line)
             if line.endswith('{'):
                 break
