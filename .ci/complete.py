@@ -46,9 +46,13 @@ class Public:
 
 
 def dependencies(root):
-    """Crate to the crates that it lists in crates.txt."""
+    """Crate to the crates that it is built on, by crates.txt: those that it lists, and theirs."""
     lines = (line.partition('#')[0].strip() for line in (root / 'crates.txt').read_text().splitlines())
-    return {name.strip(): set(rest.split()) for name, _, rest in (line.partition(':') for line in lines if line)}
+    uses = {name.strip(): set(rest.split()) for name, _, rest in (line.partition(':') for line in lines if line)}
+    for _ in uses:
+        for listed in uses.values():
+            listed |= {further for name in listed for further in uses.get(name, ())}
+    return uses
 
 
 def row_faults(cells, exported, sources, uses):

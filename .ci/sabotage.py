@@ -52,17 +52,17 @@ NAMES_AND_LISTS = [
     Sabotage('crates/text/src/lib.rt', '    ensures { λ r. ⌜ wroteTold r ≡ wrote (textIn (now (s .entry))) ⌝ }\n{', '{', 'morelquilt::utf16_size has no contract'),
     # docs/PUBLIC.md
     Sabotage('docs/PUBLIC.md', ', `morelquilt::Span`', '', 'the type morelquilt::Span is not listed'),
-    Sabotage('docs/PUBLIC.md', ', and the modules `wire::signed` (two\'s complement)', ', and the modules', 'wire::signed::of_i16 is a `pub fn` on neither list'),
+    Sabotage('docs/PUBLIC.md', 'the modules `bits::signed` (two\'s complement) and', 'the modules', 'bits::signed::of_i16 is a `pub fn` on neither list'),
     Sabotage('docs/PUBLIC.md', '`wire!byte_other_refusal`, ', '', 'morelquilt::Cursor::byte has 1 must-fail edits'),
     Sabotage('.ci/complete.py', 'EDITS_OWED = [', "EDITS_OWED = ['morelquilt::Cursor::low', ", 'morelquilt::Cursor::low has 2 must-fail edits, and is listed as owed'),
     Sabotage('docs/PUBLIC.md', '| `headerTold r ≡ readAt readHeader s at` |', '| `headerTold r ≡ readAt readColumn s at` |', 'its contract does not say readColumn'),
-    Sabotage('docs/PUBLIC.md', '| `column_write::column_size` |', '| `column_write::write_column` |', 'morelquilt::column_size is proved as column_write::column_size'),
+    Sabotage('docs/PUBLIC.md', '| `column_size::column_size` |', '| `column_write::write_column` |', 'morelquilt::column_size is proved as column_size::column_size'),
     Sabotage('docs/PUBLIC.md', '`text!room_one_short`, ', '`value_write!room_one_short`, ', 'morelquilt::to_utf16 does not use the crate of value_write!room_one_short'),
     # edits and crates
     Sabotage('crates/header/must-fail/id_twice.edit', '', None, 'there is no must-fail edit header!id_twice'),
     Sabotage('crates/header/must-fail/seven_written.edit', 'old: Wrote::Bytes(8)', 'old: Wrote::Bytes(88)',
              'crates/header/must-fail/seven_written.edit: its old line stands 0 times'),
-    Sabotage('crates.txt', 'column_rule: column_type wire format lists\n', '', 'crates/column_rule is not listed in crates.txt'),
+    Sabotage('crates.txt', 'column_rule: column_has column_type wire format lists\n', '', 'crates/column_rule is not listed in crates.txt'),
     # ops, and the cases that were handed to the project
     Sabotage('cases/ops.txt', 'type_read\n', '', 'the op type_read is neither in cases/ops.txt nor in cases/to-come.txt'),
     Sabotage('cases/to-come.txt', '', 'type_write\n', 'the op type_write is in cases/ops.txt and in cases/to-come.txt'),

@@ -56,3 +56,22 @@ pub use value_kind::Span;
 pub use value_kind::Value;
 pub use value_write::value_size;
 pub use value_write::write_value;
+
+// PLP values: the chunk walk, and the walk object that keeps the lent input.
+pub use plp::Total;
+pub use plp::Walk;
+pub use plp::WalkOpened;
+pub use plp::Walked;
+pub use plp::open_walk;
+pub use plp::walk_chunks;
+pub use plp_join::Joined;
+pub use plp_join::join_plp;
+pub use plp_walk::Said;
+pub use plp_walk::Standing;
+pub use plp_walk::WalkObject;
+pub use plp_walk::at_rest;
+pub use plp_walk::step_walk;
+pub use plp_walk::walk_object;
+pub use plp_walk::walk_on;
+pub use plp_walk::walk_place;
+pub use plp_walk::walk_standing;

@@ -56,7 +56,7 @@ pub fn above_total(total: Total, sum: u64, n: u64) -> bool
     ensures { λ r. ⌜ r ≡ aboveTotal (totalTold total) (sum + n) ⌝ }
 {
     match total {
-        Total::Unknown => false, // an even count is asked at the end alone
+        Total::Unknown => false, // there is no total to be above
         Total::Known(t) => above(t, sum, n),
     }
 }

@@ -41,12 +41,12 @@ at-rest-decided x y b p q = standing-decided [] x y (b []) (p []) (q [])
 same-object : (x y : WalkObject) → x .input ≡ y .input → x .standing ≡ y .standing → x ≡ y
 same-object x y p q = λ i. record { input = p i; standing = q i }
 
--- `plp_walk::new`
+-- `plp_walk::walk_object`
 pub new-decided : (input : RefT (List ℕ)) (t : Standing) (x y : WalkObject)
     → (x .input ≡ input) × (x .standing ≡ t) → (y .input ≡ input) × (y .standing ≡ t) → x ≡ y
 new-decided input t x y p q = same-object x y (p .0 ∙ sym (q .0)) (p .1 ∙ sym (q .1))
 
--- `plp_walk::step`
+-- `plp_walk::step_walk`
 module _ (o x y : WalkObject) (b : P.WalkObject) where
   pub step-decided : (x .input ≡ o .input) × (objectTold x ≡ b) → (y .input ≡ o .input) × (objectTold y ≡ b) → x ≡ y
   step-decided p q =
@@ -54,6 +54,6 @@ module _ (o x y : WalkObject) (b : P.WalkObject) where
       let e : standingTold (now (y .input)) (x .standing) ≡ b = ap (λ (r : RefT (List ℕ)). standingTold (now r) (x .standing)) (sym i) ∙ p .1 in
       same-object x y i (standing-decided (now (y .input)) (x .standing) (y .standing) b e (q .1))
 
--- `plp_walk::at` and `plp_walk::report` promise their answer itself
+-- `plp_walk::walk_place` and `plp_walk::walk_standing` promise their answer itself
 pub answer-decided : {A : Type 0} (x y b : A) → x ≡ b → y ≡ b → x ≡ y
 answer-decided x y b p q = p ∙ sym q

@@ -60,14 +60,14 @@ pub fn step_on(s: &[u8], from: Standing, allowed: u64) -> Standing
 }
 
 // The object, made.
-pub fn new<'a>(input: &'a [u8], standing: Standing) -> WalkObject<'a>
+pub fn walk_object<'a>(input: &'a [u8], standing: Standing) -> WalkObject<'a>
     ensures { λ r. ⌜ (r .input ≡ input .entry) × (r .standing ≡ standing) ⌝ }
 {
     WalkObject { input, standing }
 }
 
 // The object, stepped.
-pub fn step<'a>(o: WalkObject<'a>, allowed: u64) -> WalkObject<'a>
+pub fn step_walk<'a>(o: WalkObject<'a>, allowed: u64) -> WalkObject<'a>
     ensures { λ r. ⌜ (r .input ≡ o .entry .input) × (objectTold r ≡ stepped allowed (objectTold (o .entry))) ⌝ }
 {
     let standing = step_on(o.input, o.standing, allowed);
@@ -78,14 +78,14 @@ pub fn step<'a>(o: WalkObject<'a>, allowed: u64) -> WalkObject<'a>
 }
 
 // The object, asked for its place.
-pub fn at<'a>(o: WalkObject<'a>) -> usize
+pub fn walk_place<'a>(o: WalkObject<'a>) -> usize
     ensures { λ n. ⌜ n ≡ o .entry .standing .walk .at ⌝ }
 {
     o.standing.walk.at
 }
 
 // The object, asked where it stands and what it reported.
-pub fn report<'a>(o: WalkObject<'a>) -> Standing
+pub fn walk_standing<'a>(o: WalkObject<'a>) -> Standing
     ensures { λ r. ⌜ r ≡ o .entry .standing ⌝ }
 {
     o.standing
@@ -95,5 +95,5 @@ pub fn report<'a>(o: WalkObject<'a>) -> Standing
 pub fn walk_on(s: &[u8], from: Standing, allowed: u64) -> Standing
     ensures { λ r. ⌜ standingTold (now (s .entry)) r ≡ stepped allowed (standingTold (now (s .entry)) from) ⌝ }
 {
-    report(step(new(s, from), allowed))
+    walk_standing(step_walk(walk_object(s, from), allowed))
 }

@@ -29,6 +29,8 @@ fn without_room(op: u8, frame: &[u8]) -> bool {
     match op {
         0x20 => packet::header_read(frame),
         0x28 => replay_type::type_read(frame),
+        0x40 => replay_walk::walk_open(frame),
+        0x41 => replay_walk::walk_on(frame),
         0x50 => numbers::guid(frame),
         0x51 => numbers::number(frame),
         0x52 => own::guid_read(frame),

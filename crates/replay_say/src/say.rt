@@ -23,6 +23,11 @@ pub fn ok() {
     io::write_all(STDOUT_FILENO, b"ok");
 }
 
+// A word as it stands, with the space before it.
+pub fn word(text: &[u8]) {
+    io::write_all(STDOUT_FILENO, text);
+}
+
 // A word that is a number.
 pub fn number(n: u64) {
     io::write_all(STDOUT_FILENO, b" ");

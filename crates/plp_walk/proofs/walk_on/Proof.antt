@@ -47,18 +47,18 @@ use Rattle.plp_walk.proofs.WalkObject as T
 use Rattle.plp_walk.proofs.WalkObject.Laws as T′
 use Rattle.plp_walk.proofs.Standing as S
 use Rattle.plp_walk.proofs.Standing.Laws as S′
-use Rattle.plp_walk.proofs.new as new
-use Rattle.plp_walk.proofs.new.Symbol as new-def
-use Rattle.plp_walk.proofs.new.Symbol.{name as #plp-walk·new}
-use Rattle.plp_walk.proofs.new.Met as new-thm
-use Rattle.plp_walk.proofs.step as step
-use Rattle.plp_walk.proofs.step.Symbol as step-def
-use Rattle.plp_walk.proofs.step.Symbol.{name as #plp-walk·step}
-use Rattle.plp_walk.proofs.step.Met as step-thm
-use Rattle.plp_walk.proofs.report as report
-use Rattle.plp_walk.proofs.report.Symbol as report-def
-use Rattle.plp_walk.proofs.report.Symbol.{name as #plp-walk·report}
-use Rattle.plp_walk.proofs.report.Met as report-thm
+use Rattle.plp_walk.proofs.walk_object as new
+use Rattle.plp_walk.proofs.walk_object.Symbol as new-def
+use Rattle.plp_walk.proofs.walk_object.Symbol.{name as #plp-walk·walk-object}
+use Rattle.plp_walk.proofs.walk_object.Met as new-thm
+use Rattle.plp_walk.proofs.step_walk as step
+use Rattle.plp_walk.proofs.step_walk.Symbol as step-def
+use Rattle.plp_walk.proofs.step_walk.Symbol.{name as #plp-walk·step-walk}
+use Rattle.plp_walk.proofs.step_walk.Met as step-thm
+use Rattle.plp_walk.proofs.walk_standing as report
+use Rattle.plp_walk.proofs.walk_standing.Symbol as report-def
+use Rattle.plp_walk.proofs.walk_standing.Symbol.{name as #plp-walk·walk-standing}
+use Rattle.plp_walk.proofs.walk_standing.Met as report-thm
 use Rattle.plp_walk.proofs.walk_on.Key.{name as #plp-walk·walk-on}
 use Rattle.plp_walk.proofs.walk_on as fn
 use Rattle.plp_walk.proofs.walk_on.Statement as stated
@@ -181,8 +181,8 @@ module _ {M : Type 1} (𝓤 : URA M) (H : Heap 𝓤) (A : Atoms 𝓤) (W : Given
       owned ! S.the-row (Is S.the-row) (LL.makes S.the-type S′.the-plain 𝓤 H A) t _ g $ fjoin ! $
       move ! (2 ∷ 0 ∷ []) $ fjoin ! $ frame ! $ done !
 
-  module _ (C : Calls 𝓤 H) (Λ : Loops 𝓤 H) (fm : FmC 𝓤 H (W .laws) C) (known-new : Triple 𝓤 (C #plp-walk·new) (New 𝓤 H A mem run))
-      (known-step : Triple 𝓤 (C #plp-walk·step) (Step 𝓤 H A mem run)) (known-report : Triple 𝓤 (C #plp-walk·report) (Report 𝓤 H A mem run)) where
+  module _ (C : Calls 𝓤 H) (Λ : Loops 𝓤 H) (fm : FmC 𝓤 H (W .laws) C) (known-new : Triple 𝓤 (C #plp-walk·walk-object) (New 𝓤 H A mem run))
+      (known-step : Triple 𝓤 (C #plp-walk·step-walk) (Step 𝓤 H A mem run)) (known-report : Triple 𝓤 (C #plp-walk·walk-standing) (Report 𝓤 H A mem run)) where
     walk : Is (ShrSlice (named 0) κ u8) s (v ∷ []) → Is S.the-row t (w ∷ [])
         → ent 𝓤 (onEntry 𝓤 H A fn.signature (κ, tt) (q, tt) (s, (t, (n, tt))) at) (WpFn 𝓤 H C Λ code.function (v ∷ w ∷ vint w64 n ∷ []) Post)
     walk p g =
@@ -222,8 +222,8 @@ module _ {M : Type 1} (𝓤 : URA M) (H : Heap 𝓤) (A : Atoms 𝓤) (W : Given
         move ! (5 ∷ 6 ∷ []) $ free1 ! $ move ! (3 ∷ 4 ∷ []) $ free1 ! $ free0 ! $ by ! (exits z u′ g (found r x z e f h))))))))))))))))))))
 
 module _ {M : Type 1} (𝓤 : URA M) (H : Heap 𝓤) (A : Atoms 𝓤) (W : Given 𝓤 H A) (mem : Memory → SProp 𝓤) (run : Routine → Fun 𝓤) (𝓣 : Tables 𝓤 H)
-    (known-new : Triple 𝓤 (𝓣 .C #plp-walk·new) (New 𝓤 H A mem run)) (known-step : Triple 𝓤 (𝓣 .C #plp-walk·step) (Step 𝓤 H A mem run))
-    (known-report : Triple 𝓤 (𝓣 .C #plp-walk·report) (Report 𝓤 H A mem run)) where
+    (known-new : Triple 𝓤 (𝓣 .C #plp-walk·walk-object) (New 𝓤 H A mem run)) (known-step : Triple 𝓤 (𝓣 .C #plp-walk·step-walk) (Step 𝓤 H A mem run))
+    (known-report : Triple 𝓤 (𝓣 .C #plp-walk·walk-standing) (Report 𝓤 H A mem run)) where
   fn-walks : Walks 𝓤 H A fn.ended stayed (WpFn 𝓤 H (𝓣 .C) (𝓣 .Λ) code.function) (fn.clauses 𝓤 H A mem run)
   fn-walks =
       walked 𝓤 H A fn.ended stayed (fn.clauses 𝓤 H A mem run) (WpFn 𝓤 H (𝓣 .C) (𝓣 .Λ) code.function)
@@ -246,7 +246,7 @@ walk-on-spec 𝓤 H 𝓜 𝓖 𝓡 =
     entered 𝓤 H (tripleOf 𝓤 H (𝓖 .A) fn.signature (fn.spec 𝓤 H (𝓖 .A) (𝓜 .mem) (𝓡 .run)))
     (tables 𝓤 H 𝓜 𝓡 code.env .C) (tables 𝓤 H 𝓜 𝓡 code.env .Λ) #plp-walk·walk-on code.function (code.unfolded 𝓤 H 𝓜 𝓡)
     (fn-meets 𝓤 H (𝓖 .A) (givenOf 𝓤 H 𝓜 𝓖) (𝓜 .mem) (𝓡 .run) (tablesOf 𝓤 H 𝓜 (tables 𝓤 H 𝓜 𝓡 code.env))
-    (cited 𝓤 H (New 𝓤 H (𝓖 .A) (𝓜 .mem) (𝓡 .run)) 𝓜 𝓡 code.env #plp-walk·new new-def.routine code.calls-plp-walk·new (new-thm.met 𝓤 H 𝓜 𝓖 𝓡))
-    (cited 𝓤 H (Step 𝓤 H (𝓖 .A) (𝓜 .mem) (𝓡 .run)) 𝓜 𝓡 code.env #plp-walk·step step-def.routine code.calls-plp-walk·step (step-thm.met 𝓤 H 𝓜 𝓖 𝓡))
-    (cited 𝓤 H (Report 𝓤 H (𝓖 .A) (𝓜 .mem) (𝓡 .run)) 𝓜 𝓡 code.env #plp-walk·report report-def.routine code.calls-plp-walk·report
+    (cited 𝓤 H (New 𝓤 H (𝓖 .A) (𝓜 .mem) (𝓡 .run)) 𝓜 𝓡 code.env #plp-walk·walk-object new-def.routine code.calls-plp-walk·walk-object (new-thm.met 𝓤 H 𝓜 𝓖 𝓡))
+    (cited 𝓤 H (Step 𝓤 H (𝓖 .A) (𝓜 .mem) (𝓡 .run)) 𝓜 𝓡 code.env #plp-walk·step-walk step-def.routine code.calls-plp-walk·step-walk (step-thm.met 𝓤 H 𝓜 𝓖 𝓡))
+    (cited 𝓤 H (Report 𝓤 H (𝓖 .A) (𝓜 .mem) (𝓡 .run)) 𝓜 𝓡 code.env #plp-walk·walk-standing report-def.routine code.calls-plp-walk·walk-standing
     (report-thm.met 𝓤 H 𝓜 𝓖 𝓡)))

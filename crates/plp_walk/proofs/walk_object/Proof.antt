@@ -1,4 +1,4 @@
--- `plp_walk::new` meets its contract: a walk of its MIR, by hand. An object is made of the slice passed and of where a walk stands, in the result's local.
+-- `plp_walk::walk_object` meets its contract: a walk of its MIR, by hand. An object is made of the slice passed and of where a walk stands, in the result's local.
 -- A `&[u8]` is Copy, so what it owns is had twice: once for the input at exit, and once inside the result, beside the facts of where the walk stands.
 -- Assumes nothing.
 use mathlib.Core.Path.{refl}
@@ -40,10 +40,10 @@ use Rattle.plp_walk.proofs.WalkObject as T
 use Rattle.plp_walk.proofs.WalkObject.Laws as T′
 use Rattle.plp_walk.proofs.Standing as S
 use Rattle.plp_walk.proofs.Standing.Laws as S′
-use Rattle.plp_walk.proofs.new.Key.{name as #plp-walk·new}
-use Rattle.plp_walk.proofs.new as fn
-use Rattle.plp_walk.proofs.new.Statement as stated
-use Rattle.plp_walk.proofs.new.Code as code
+use Rattle.plp_walk.proofs.walk_object.Key.{name as #plp-walk·walk-object}
+use Rattle.plp_walk.proofs.walk_object as fn
+use Rattle.plp_walk.proofs.walk_object.Statement as stated
+use Rattle.plp_walk.proofs.walk_object.Code as code
 
 abbrev stayed : Stays (fn.ended .signature .params) (fn.ended .kept)
 stayed = (stay-none-slice (0 ∷ []) tt (plain (λ _. u8)) yes, (stay-none (λ _. S.the-row) yes, tt))
@@ -116,9 +116,9 @@ fn-meets 𝓤 H A W mem run 𝓣 =
     (goes-none-slice 𝓤 H A W 1 (0 ∷ []) tt (plain (λ _. u8)) yes, (goes-none 𝓤 H A W 1 (λ _. S.the-row) yes (λ κs x f. refl), tt))
     (fn.clauses 𝓤 H A mem run) (WpFn 𝓤 H (𝓣 .C) (𝓣 .Λ) code.function) (WpFn-mono 𝓤 H (W .laws) 𝓣 code.function) (fn-walks 𝓤 H A W mem run (𝓣 .C) (𝓣 .Λ))
 
-pub new-spec : {M : Type 1} → stated.statement M
+pub walk-object-spec : {M : Type 1} → stated.statement M
 unfolding code.routine tablesOf
-new-spec 𝓤 H 𝓜 𝓖 𝓡 =
+walk-object-spec 𝓤 H 𝓜 𝓖 𝓡 =
     entered 𝓤 H (tripleOf 𝓤 H (𝓖 .A) fn.signature (fn.spec 𝓤 H (𝓖 .A) (𝓜 .mem) (𝓡 .run)))
-    (tables 𝓤 H 𝓜 𝓡 code.env .C) (tables 𝓤 H 𝓜 𝓡 code.env .Λ) #plp-walk·new code.function (code.unfolded 𝓤 H 𝓜 𝓡)
+    (tables 𝓤 H 𝓜 𝓡 code.env .C) (tables 𝓤 H 𝓜 𝓡 code.env .Λ) #plp-walk·walk-object code.function (code.unfolded 𝓤 H 𝓜 𝓡)
     (fn-meets 𝓤 H (𝓖 .A) (givenOf 𝓤 H 𝓜 𝓖) (𝓜 .mem) (𝓡 .run) (tablesOf 𝓤 H 𝓜 (tables 𝓤 H 𝓜 𝓡 code.env)))

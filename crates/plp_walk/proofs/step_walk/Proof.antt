@@ -1,4 +1,4 @@
--- `plp_walk::step` meets its contract: a walk of its MIR, by hand. The object is taken apart, and `step_on` is called on the slice and on where the walk
+-- `plp_walk::step_walk` meets its contract: a walk of its MIR, by hand. The object is taken apart, and `step_on` is called on the slice and on where the walk
 -- stands. All that the proof knows of `step_on` is that it meets its contract.
 -- The object is Copy: what it owns is had twice, one copy is kept whole for the exit, and of the other what the input owns goes to the callee, beside the
 -- lifetime's token, which comes back. What the other fields own are facts, made anew.
@@ -59,10 +59,10 @@ use Rattle.plp_walk.proofs.step_on as callee
 use Rattle.plp_walk.proofs.step_on.Symbol as callee-def
 use Rattle.plp_walk.proofs.step_on.Symbol.{name as #plp-walk·step-on}
 use Rattle.plp_walk.proofs.step_on.Met as callee-thm
-use Rattle.plp_walk.proofs.step.Key.{name as #plp-walk·step}
-use Rattle.plp_walk.proofs.step as fn
-use Rattle.plp_walk.proofs.step.Statement as stated
-use Rattle.plp_walk.proofs.step.Code as code
+use Rattle.plp_walk.proofs.step_walk.Key.{name as #plp-walk·step-walk}
+use Rattle.plp_walk.proofs.step_walk as fn
+use Rattle.plp_walk.proofs.step_walk.Statement as stated
+use Rattle.plp_walk.proofs.step_walk.Code as code
 
 -- the object's type and laws, over the signature's lifetimes
 abbrev B : Lfts 1 → RattleType
@@ -216,10 +216,10 @@ fn-meets 𝓤 H A W mem run 𝓣 known =
     (fn.clauses 𝓤 H A mem run) (WpFn 𝓤 H (𝓣 .C) (𝓣 .Λ) code.function) (WpFn-mono 𝓤 H (W .laws) 𝓣 code.function)
     (fn-walks 𝓤 H A W mem run (𝓣 .C) (𝓣 .Λ) (fmOf 𝓤 H (W .laws) 𝓣) known)
 
-pub step-spec : {M : Type 1} → stated.statement M
+pub step-walk-spec : {M : Type 1} → stated.statement M
 unfolding code.routine tablesOf
-step-spec 𝓤 H 𝓜 𝓖 𝓡 =
+step-walk-spec 𝓤 H 𝓜 𝓖 𝓡 =
     entered 𝓤 H (tripleOf 𝓤 H (𝓖 .A) fn.signature (fn.spec 𝓤 H (𝓖 .A) (𝓜 .mem) (𝓡 .run)))
-    (tables 𝓤 H 𝓜 𝓡 code.env .C) (tables 𝓤 H 𝓜 𝓡 code.env .Λ) #plp-walk·step code.function (code.unfolded 𝓤 H 𝓜 𝓡)
+    (tables 𝓤 H 𝓜 𝓡 code.env .C) (tables 𝓤 H 𝓜 𝓡 code.env .Λ) #plp-walk·step-walk code.function (code.unfolded 𝓤 H 𝓜 𝓡)
     (fn-meets 𝓤 H (𝓖 .A) (givenOf 𝓤 H 𝓜 𝓖) (𝓜 .mem) (𝓡 .run) (tablesOf 𝓤 H 𝓜 (tables 𝓤 H 𝓜 𝓡 code.env))
     (cited 𝓤 H (StepOn 𝓤 H (𝓖 .A) (𝓜 .mem) (𝓡 .run)) 𝓜 𝓡 code.env #plp-walk·step-on callee-def.routine code.calls-plp-walk·step-on (callee-thm.met 𝓤 H 𝓜 𝓖 𝓡)))
