@@ -16,10 +16,6 @@ pub mod Scalar
 pub mod Chunks
 pub mod Plp
 pub mod Opening
-pub mod More
-pub mod MoreChunks
-pub mod MoreReaders
-pub mod Found
 pub mod FixedWidth
 pub mod LengthByte
 pub mod Content
@@ -27,3 +23,8 @@ pub mod Value
 pub mod Normal
 pub mod Writing
 pub mod Marked
+pub mod More
+pub mod MoreChunks
+pub mod MoreReaders
+pub mod StreamNormal
+pub mod Found

@@ -1,5 +1,6 @@
 -- An answer other than refusal 1 does not change when more bytes follow: of every reader of the format. Each is put together from readers of which it holds.
---   stream-header, stream-column, steady-open, stream-value, stream-row, stream-capture, stream-normal; the chunk walk's is `steady-walk` of MoreChunks.
+--   stream-header, stream-column, steady-open, stream-value, stream-row, stream-capture; the chunk walk's is `steady-walk` of MoreChunks, the
+--   normal form's `stream-normal` of StreamNormal.
 -- At a place of the input, and with a room, it holds by `steady-at` and `steady-fitted` of More: steady-value-at, steady-row-at, steady-join.
 -- Assumes nothing.
 use mathlib.Core.Path.{_≡_, refl, ap, _∙_}
@@ -23,7 +24,6 @@ use Rattle.format.specs.Plp.{plpMark, readPlpHead, isOdd, walkBehind, op
 use Rattle.format.specs.Value.{Value, ContentKind, Family, fixedWidth, lengthByte, content, familyOf, isText, contentValue}
 use Rattle.format.specs.Value.{ofWidth, readWidth, readLengthByte, shortNull, readShort, readContent, readFamily, readValue, copiedOut}
 use Rattle.format.specs.Row.{maxColumns, consRead, readValues, readRow, copiedOutRow, readColumns, captured, readCaptured, readCounted, readCapture}
-use Rattle.format.specs.Normal.{encodeRow, normal}
 use Rattle.format.proofs.Place.{Stays, past}
 use Rattle.format.proofs.More.{Steady, Streams, steady-at, steady-fitted, stream-byte, stream-low, stream-bytes, stream-took, stream-stops}
 use Rattle.format.proofs.More.{stream-map, stream-pick, stream-stop, stream-then}
@@ -151,7 +151,7 @@ pub stream-value : (c : Column) → Streams (readValue c)
 unfolding readValue
 stream-value c = stream-stop (not (keepsRule c)) rule _ (stream-family (c .length) (familyOf (c .type)))
 
--- ---- a row, a capture, the normal form
+-- ---- a row, a capture
 
 stream-cons : {A : Type 0} (rest : List ℕ → Read (List A)) (v : A) → Streams rest → Streams (consRead rest v)
 stream-cons rest v p = stream-map (_∷_ v) rest p
@@ -176,10 +176,6 @@ stream-capture =
     stream-then (readLow 2) readCounted (stream-low 2) (λ n.
     stream-stop (ltb maxColumns n) rule _
     (stream-then (readColumns n) readCaptured (stream-columns n) (λ cs. stream-map (captured cs) (readRow cs) (stream-row cs))))
-
-pub stream-normal : (cs : List Column) → Streams (normal cs)
-unfolding normal
-stream-normal cs = stream-map (encodeRow cs) (readRow cs) (stream-row cs)
 
 -- ---- as callers meet them: at a place, and with a room
 
