@@ -1,6 +1,6 @@
 -- Content that was read is where it is said to stand: the part of the input behind a value's two length bytes, or the part of the room behind what was copied
 -- before it. `found-stands` for one value at a place, `read-stands` for one value and its room, `row-stands` for the columns of a row,
--- one after another, `read-row-stands` for a row and its room.
+-- one after another, `read-row-stands` for a row and its room. `found-steady`: more bytes behind the input move nothing.
 -- A short value's content is the bytes behind its length; a PLP value's is what is copied out, and the room holds that behind the columns before it.
 -- Assumes nothing.
 use mathlib.Core.Path.{_≡_, refl, ap, sym, _∙_}
@@ -15,7 +15,8 @@ use lib.Dec.{ltb, eqb}
 use borrow.Author.Tests.{le-ltb}
 use Rattle.lists.specs.Pick.{pick}
 use Rattle.lists.proofs.Split.{split}
-use Rattle.format.specs.Answer.{rule, long, sequence, Read, took, stops, thenRead, mapRead, readAt, fittedRead, roomAfterRead, Part, inside, part}
+use Rattle.format.specs.Answer.{missing, rule, long, sequence, Read, took, stops, thenRead, mapRead, readAt, fittedRead, roomAfterRead}
+use Rattle.format.specs.Answer.{Part, inside, part}
 use Rattle.format.specs.Number.{readByte, readLow, readBytes}
 use Rattle.format.specs.Descriptor.{Column, keepsRule}
 use Rattle.format.specs.Scalar.{Kind, readScalar}
@@ -23,9 +24,11 @@ use Rattle.format.specs.Plp.{plpMark, isOdd}
 use Rattle.format.specs.Value.{Value, ContentKind, Family, fixedWidth, lengthByte, content, familyOf, isText, contentValue, ofWidth, readWidth}
 use Rattle.format.specs.Value.{readLengthByte, shortNull, readShort, readFamily, readValue, contentOf, isPlp, copiedOut}
 use Rattle.format.specs.Row.{maxColumns, consRead, readValues, readRow, copiedOutRow}
-use Rattle.format.specs.Found.{Stand, inInput, inRoom, Found, foundOf, foundRow, partOrEmpty, handedBack}
-use Rattle.format.proofs.Place.{past, no-took, took-at, at-took, next-inside, then-took, map-took, stays-low, stays-bytes}
+use Rattle.format.specs.Found.{Stand, inInput, inRoom, Found, foundOf, foundNext, foundRow, partOrEmpty, handedBack}
+use Rattle.format.proofs.Place.{past, no-took, took-at, at-took, at-then, at-then-stops, at-map-stops, next-inside, then-took, map-took}
+use Rattle.format.proofs.Place.{stays-low, stays-bytes}
 use Rattle.format.proofs.Plain.{low-took, bytes-took}
+use Rattle.format.proofs.More.{steady-at}
 use Rattle.format.proofs.MoreReaders.{stream-value}
 
 -- ---- what it is to stand
@@ -252,3 +255,30 @@ module _ (ds : List Column) (s : List ℕ) (at : ℕ) (vs : List Value) (next : 
   read-row-stands h =
       let e = columns (fits (copiedOutRow ds) (length out) (readAt (readRow ds) s at) vs next h) in
       row-stands ds s at vs next e (roomAfterRead (copiedOutRow ds) readOut out) [] (drop (length (copiedOutRow ds vs)) out) (rw h)
+
+-- ---- with more bytes behind the input: what was found is found where it was, unless bytes are missing
+
+module _ (s more : List ℕ) where
+  found-next : (d : Column) (ds : List Column) (at copied : ℕ) → ((next k : ℕ) → (readAt (readValues ds) s next ≡ stops missing → ⊥)
+      → foundRow ds (s ++ more) next k ≡ foundRow ds s next k)
+      → (readAt (readValues (d ∷ ds)) s at ≡ stops missing → ⊥) → (r : Read Value) → readAt (readValue d) s at ≡ r
+      → foundNext d at copied (foundRow ds (s ++ more)) r ≡ foundNext d at copied (foundRow ds s) r
+  unfolding readValues
+  found-next d ds at copied ih h (took v next) e =
+      let t = at-then (readValue d) (consRead (readValues ds)) s at (stream-value d .stays) v next e in
+      let g = ih next (copied + length (copiedOut d v)) (λ z. h (t ∙ at-map-stops (_∷_ v) (readValues ds) s next missing z)) in
+      ap (_∷_ (foundOf d at copied v)) g
+  found-next d ds at copied ih h (stops r) e = refl
+
+  first-missing : (d : Column) (ds : List Column) (at : ℕ) → readAt (readValue d) s at ≡ stops missing → readAt (readValues (d ∷ ds)) s at ≡ stops missing
+  unfolding readValues
+  first-missing d ds at e = at-then-stops (readValue d) (consRead (readValues ds)) s at missing e
+
+  pub found-steady : (ds : List Column) (at copied : ℕ) → (readAt (readValues ds) s at ≡ stops missing → ⊥)
+      → foundRow ds (s ++ more) at copied ≡ foundRow ds s at copied
+  unfolding foundRow
+  found-steady [] at copied h = refl
+  found-steady (d ∷ ds) at copied h =
+      let e = steady-at (readValue d) at (stream-value d .steady) s more (λ z. h (first-missing d ds at z)) in
+      ap (foundNext d at copied (foundRow ds (s ++ more))) e
+      ∙ found-next d ds at copied (found-steady ds) h (readAt (readValue d) s at) refl

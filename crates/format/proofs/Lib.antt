@@ -16,10 +16,6 @@ pub mod Scalar
 pub mod Chunks
 pub mod Plp
 pub mod Opening
-pub mod More
-pub mod MoreChunks
-pub mod MoreReaders
-pub mod Found
 pub mod FixedWidth
 pub mod LengthByte
 pub mod Content
@@ -28,3 +24,8 @@ pub mod Normal
 pub mod Writing
 pub mod Marked
 pub mod Pinned
+pub mod More
+pub mod MoreChunks
+pub mod MoreReaders
+pub mod StreamNormal
+pub mod Found

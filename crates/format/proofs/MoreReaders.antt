@@ -1,6 +1,7 @@
 -- An answer other than refusal 1 does not change when more bytes follow: of every reader of the format. Each is put together from readers of which it holds.
---   steady-header, stream-column, steady-open, stream-value, stream-row, stream-capture, stream-normal; the chunk walk's is `steady-walk` of MoreChunks.
--- At a place of the input, and with a room, it holds by `steady-at` and `steady-fitted` of More.
+--   stream-header, stream-column, steady-open, stream-value, stream-row, stream-capture; the chunk walk's is `steady-walk` of MoreChunks, the
+--   normal form's `stream-normal` of StreamNormal.
+-- At a place of the input, and with a room, it holds by `steady-at` and `steady-fitted` of More: steady-value-at, steady-row-at, steady-join.
 -- Assumes nothing.
 use mathlib.Core.Path.{_≡_, refl, ap, _∙_}
 use mathlib.Core.List.{List, [], _∷_, _++_}
@@ -12,19 +13,19 @@ use lib.ListN.{length, getD, take, drop, length-append, length-drop, List·getD-
 use lib.Seq.{take-append-le, drop-append-le}
 use lib.Dec.{ltb, eqb}
 use borrow.Author.Tests.{le-ltb, ltb-false}
-use Rattle.format.specs.Answer.{rule, long, sequence, Answer, gives, refuses, Read, took, thenRead, mapRead}
+use Rattle.format.specs.Answer.{missing, unknown, rule, long, sequence, Answer, gives, refuses, took, thenRead, mapRead, readAt, fittedRead, Read}
 use Rattle.format.specs.Number.{highNat, readByte, readLow, readBytes}
-use Rattle.format.specs.Header.{readHeader}
+use Rattle.format.specs.Header.{packetTypes, packetStatuses, listed, readHeader}
 use Rattle.format.specs.Descriptor.{TypeId, fixedLen, byteLen, uShortLen, longLen, daten, xml, udt, ssVariant, hasDigits, hasCollation, Column, plain}
 use Rattle.format.specs.Descriptor.{datenLength, withSort, readSort, readCollation, withScale, readScale, readDigits, readUnits, readName, withNames}
 use Rattle.format.specs.Descriptor.{readThird, readSecond, schemaMarker, readSchema, readFields, readTyped, typeOf, readType, readColumn, keepsRule}
 use Rattle.format.specs.Scalar.{Kind, width, scalarOf, readScalar}
-use Rattle.format.specs.Plp.{plpMark, readPlpHead, isOdd, walkBehind, openWalk, readPlp}
+use Rattle.format.specs.Plp.{plpMark, readPlpHead, isOdd, walkBehind, openWalk, readPlp, plpCopied, joinPlp}
 use Rattle.format.specs.Value.{Value, ContentKind, Family, fixedWidth, lengthByte, content, familyOf, isText, contentValue}
-use Rattle.format.specs.Value.{ofWidth, readWidth, readLengthByte, shortNull, readShort, readContent, readFamily, readValue}
-use Rattle.format.specs.Row.{maxColumns, consRead, readValues, readRow, readColumns, captured, readCaptured, readCounted, readCapture}
-use Rattle.format.specs.Normal.{encodeRow, normal}
-use Rattle.format.proofs.More.{Steady, Streams, steady-at, stream-byte, stream-low, stream-bytes, stream-took, stream-stops}
+use Rattle.format.specs.Value.{ofWidth, readWidth, readLengthByte, shortNull, readShort, readContent, readFamily, readValue, copiedOut}
+use Rattle.format.specs.Row.{maxColumns, consRead, readValues, readRow, copiedOutRow, readColumns, captured, readCaptured, readCounted, readCapture}
+use Rattle.format.proofs.Place.{Stays, past}
+use Rattle.format.proofs.More.{Steady, Streams, steady-at, steady-fitted, stream-byte, stream-low, stream-bytes, stream-took, stream-stops}
 use Rattle.format.proofs.More.{stream-map, stream-pick, stream-stop, stream-then}
 use Rattle.format.proofs.MoreChunks.{steady-plp-head, stream-plp}
 
@@ -51,6 +52,18 @@ steady-header s more h = go (ltb (length s) 8) refl
         let b = byte-there s more i in
         let n = two-there s more i in
         rw (t, l, b 0 (omega arith), b 1 (omega arith), b 6 (omega arith), b 7 (omega arith), n 2 (omega arith), n 4 (omega arith))
+
+stays-header : Stays readHeader
+unfolding readHeader
+stays-header s v n h =
+    let p = past (ltb (length s) 8) missing _ v n h in
+    let q = past (not (listed packetTypes (getD s 0 0))) unknown _ v n (p .1) in
+    let r = past (not (listed packetStatuses (getD s 1 0))) unknown _ v n (q .1) in
+    let e : 8 ≡ n = cc (r .1) in
+    omega (arith, ltb-false (length s) 8 (p .0))
+
+pub stream-header : Streams readHeader
+stream-header = record { stays = stays-header; steady = steady-header }
 
 -- ---- a descriptor
 
@@ -138,7 +151,7 @@ pub stream-value : (c : Column) → Streams (readValue c)
 unfolding readValue
 stream-value c = stream-stop (not (keepsRule c)) rule _ (stream-family (c .length) (familyOf (c .type)))
 
--- ---- a row, a capture, the normal form
+-- ---- a row, a capture
 
 stream-cons : {A : Type 0} (rest : List ℕ → Read (List A)) (v : A) → Streams rest → Streams (consRead rest v)
 stream-cons rest v p = stream-map (_∷_ v) rest p
@@ -164,6 +177,14 @@ stream-capture =
     stream-stop (ltb maxColumns n) rule _
     (stream-then (readColumns n) readCaptured (stream-columns n) (λ cs. stream-map (captured cs) (readRow cs) (stream-row cs))))
 
-pub stream-normal : (cs : List Column) → Streams (normal cs)
-unfolding normal
-stream-normal cs = stream-map (encodeRow cs) (readRow cs) (stream-row cs)
+-- ---- as callers meet them: at a place, and with a room
+
+pub steady-value-at : (c : Column) (at size : ℕ) → Steady (λ (s : List ℕ). fittedRead (copiedOut c) (readAt (readValue c) s at) size)
+steady-value-at c at size = steady-fitted (copiedOut c) (λ s. readAt (readValue c) s at) size (steady-at (readValue c) at (stream-value c .steady))
+
+pub steady-row-at : (cs : List Column) (at size : ℕ) → Steady (λ (s : List ℕ). fittedRead (copiedOutRow cs) (readAt (readRow cs) s at) size)
+steady-row-at cs at size = steady-fitted (copiedOutRow cs) (λ s. readAt (readRow cs) s at) size (steady-at (readRow cs) at (stream-row cs .steady))
+
+pub steady-join : (text : Bool) (at size : ℕ) → Steady (λ (s : List ℕ). joinPlp text s at size)
+unfolding joinPlp
+steady-join text at size = steady-fitted plpCopied (λ s. readAt (readPlp text) s at) size (steady-at (readPlp text) at (stream-plp text .steady))
