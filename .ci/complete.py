@@ -71,7 +71,9 @@ def row_faults(cells, exported, sources, uses):
         yield '%s asks something of its caller' % call
     said = re.findall(r'[A-Za-z]{3,}', ' '.join(quoted(cells[2])))
     said += [word.rpartition('.')[2] for word in quoted(cells[3])[:1]]
-    if cells[2].startswith('W of ') or 'roomAfter' in contract:
+    if (reads := re.search(r'\broomAfter\w+', contract)) and reads[0] not in cells[2]:
+        yield '%s has a room, and its row does not say %s' % (call, reads[0])
+    if cells[2].startswith('W of ') or re.search(r'\broomAfter\b', contract):
         said += ['wroteTold', 'wrote', 'fitted', 'roomAfter']
         if not cells[2].startswith('W of '):
             yield '%s has a room, and its row does not say W' % call

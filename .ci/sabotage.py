@@ -58,6 +58,7 @@ NAMES_AND_LISTS = [
     Sabotage('docs/PUBLIC.md', '| `headerTold r ≡ readAt readHeader s at` |', '| `headerTold r ≡ readAt readColumn s at` |', 'its contract does not say readColumn'),
     Sabotage('docs/PUBLIC.md', '| `column_size::column_size` |', '| `column_write::write_column` |', 'morelquilt::column_size is proved as column_size::column_size'),
     Sabotage('docs/PUBLIC.md', '`text!room_one_short`, ', '`value_write!room_one_short`, ', 'morelquilt::to_utf16 does not use the crate of value_write!room_one_short'),
+    Sabotage('docs/PUBLIC.md', ', and the room afterwards ≡ `roomAfterJoin text s at room`', '', 'morelquilt::join_plp has a room, and its row does not say roomAfterJoin'),
     # edits and crates
     Sabotage('crates/header/must-fail/id_twice.edit', '', None, 'there is no must-fail edit header!id_twice'),
     Sabotage('crates/header/must-fail/seven_written.edit', 'old: Wrote::Bytes(8)', 'old: Wrote::Bytes(88)',
