@@ -1,4 +1,5 @@
--- What follows the type byte, as the code reads it, is what the definition reads: a byte is a number of one byte, and one reader serves every type with a length.
+-- What follows the type byte, as the code reads it, is what the definition reads: a byte is a number of one byte, and one reader serves every type with a
+-- length.
 -- Assumes nothing.
 use mathlib.Core.Path.{_≡_, refl, ap, _∙_}
 use mathlib.Core.List.{List, [], _∷_}

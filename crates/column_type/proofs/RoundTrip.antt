@@ -1,4 +1,5 @@
--- Demand 3's sentence on descriptors, of the code: by the contracts of `read_column` and `write_column`, a column that was read is written again, from the buffer
+-- Demand 3's sentence on descriptors, of the code: by the contracts of `read_column` and `write_column`, a column that was read is written again, from the
+-- buffer
 -- that it was read from, as the bytes that it was read from; and one that was written reads back as what was written.
 -- Assumes nothing.
 use mathlib.Core.Path.{_≡_, sym, ap, _∙_}

@@ -1,4 +1,5 @@
--- What follows a descriptor's type byte, read of bytes, is written again as the bytes that it was read from. Its parts stand one behind another: what each part's
+-- What follows a descriptor's type byte, read of bytes, is written again as the bytes that it was read from. Its parts stand one behind another: what each
+-- part's
 -- reader cut off the front is what its writer gives (the laws named cut).
 -- Assumes nothing.
 use mathlib.Core.Path.{_≡_, refl, sym, ap, _∙_}
@@ -127,7 +128,9 @@ module _ (t : TypeId) (w : ℕ) (f : Form t w) (none-digits : hasDigits t ≡ fa
       })) ≡ true = rw (e, lt-ltb info (256 ^ 4) (u .1), lt-ltb sort 256 (y .1)) in
       let r : c ≡ withSort t n info sort = sym (v .2) in
       let i : take k s ≡ lowBytes 4 info ++ (sort ∷ []) = rw (g .5, u .0, y .0) in
-      let z : typeByte t ∷ (lowBytes w n ++ (digitsBytes (hasDigits t) 0 0 ++ (lowBytes 4 info ++ (sort ∷ [])))) ≡ typeByte t ∷ (lowBytes w n ++ (lowBytes 4 info ++ (sort ∷ []))) =
+      let z :
+      typeByte t ∷ (lowBytes w n ++ (digitsBytes (hasDigits t) 0 0 ++ (lowBytes 4 info ++ (sort ∷ []))))
+      ≡ typeByte t ∷ (lowBytes w n ++ (lowBytes 4 info ++ (sort ∷ []))) =
       rw none-digits in
       rw (r, i) (form-written t w f n 0 0 o h d l ∙ ap gives z)
 

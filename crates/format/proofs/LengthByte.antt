@@ -1,5 +1,6 @@
 -- "A length byte, 0 for null, else one of" the widths of the listed kinds: `listed n ks` for every list ks whose kinds have a width each of their own.
--- A value fits where it is null, or a scalar of a listed kind in its range, its width within the declared length n. The length byte tells the kind back, since no
+-- A value fits where it is null, or a scalar of a listed kind in its range, its width within the declared length n. The length byte tells the kind back,
+-- since no
 -- two listed kinds have the same width; behind it the scalars' codec reads.
 -- Assumes nothing.
 use mathlib.Core.Path.{_≡_, refl, ap, sym, _∙_}

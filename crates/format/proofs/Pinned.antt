@@ -12,7 +12,8 @@ use lib.Dec.{ltb, leb}
 use lib.ListN.{length, take, drop, length-append, length-drop}
 use lib.Seq.{take-append-seam, drop-append-seam}
 use Rattle.lists.specs.Pick.{pick}
-use Rattle.format.specs.Answer.{Refusal, missing, unknown, kind, room, long, rule, notCarried, sequence, notText, number, Answer, gives, refuses, Read, took, stops, Part, inside, fitted, roomAfter, fittedRead, roomAfterRead, thenRead}
+use Rattle.format.specs.Answer.{Refusal, missing, unknown, kind, room, long, rule, notCarried, sequence, notText, number, Answer, gives}
+use Rattle.format.specs.Answer.{refuses, Read, took, stops, Part, inside, fitted, roomAfter, fittedRead, roomAfterRead, thenRead}
 use Rattle.format.specs.Number.{lowBytes}
 use Rattle.format.specs.Text.{textIn}
 use Rattle.format.specs.Header.{packetTypes, packetStatuses, listed}
@@ -125,7 +126,8 @@ module _ (s : List ℕ) where
     unfolding writeUntyped
     string-4000 h = rw (e, le-leb (length s) 4000 h)
 
-    pub string-above : 4000 < length s → length u ≤ 2147483647 → writeUntyped (Given.string (inside s)) ≡ gives (0xE7 ∷ 0xFF ∷ 0xFF ∷ 0 ∷ 0 ∷ 0 ∷ 0 ∷ 0 ∷ plpBytes (some u))
+    pub string-above : 4000 < length s → length u ≤ 2147483647 →
+        writeUntyped (Given.string (inside s)) ≡ gives (0xE7 ∷ 0xFF ∷ 0xFF ∷ 0 ∷ 0 ∷ 0 ∷ 0 ∷ 0 ∷ plpBytes (some u))
     unfolding writeUntyped untypedBound
     string-above h k = rw (e, lt-leb (length s) 4000 h, le-ltb 2147483647 (length u) k)
 

@@ -253,19 +253,25 @@ module _ (c n : ℕ) where
       (λ e q. by-row (Forth utf8 (a ∷ s) c n) a s wellFormed (
         (λ f l. forth-two (rowAt 0 wellFormed) a s refl refl (omega arith) (omega arith) f l),
         (
-          (λ f l. forth-three (rowAt 1 wellFormed) a s refl refl (omega arith) (omega arith) (omega arith) (omega arith) (λ b x i j k. (omega arith, below (omega arith)))),
+          (λ f l. forth-three (rowAt 1 wellFormed) a s refl refl (omega arith) (omega arith) (omega arith) (omega arith)
+              (λ b x i j k. (omega arith, below (omega arith)))),
           (
-            (λ f l. forth-three (rowAt 2 wellFormed) a s refl refl (omega arith) (omega arith) (omega arith) (omega arith) (λ b x i j k. (omega arith, below (omega arith)))),
+            (λ f l. forth-three (rowAt 2 wellFormed) a s refl refl (omega arith) (omega arith) (omega arith) (omega arith)
+                (λ b x i j k. (omega arith, below (omega arith)))),
             (
-              (λ f l. forth-three (rowAt 3 wellFormed) a s refl refl (omega arith) (omega arith) (omega arith) (omega arith) (λ b x i j k. (omega arith, below (omega arith)))),
+              (λ f l. forth-three (rowAt 3 wellFormed) a s refl refl (omega arith) (omega arith) (omega arith) (omega arith)
+                  (λ b x i j k. (omega arith, below (omega arith)))),
               (
-                (λ f l. forth-three (rowAt 4 wellFormed) a s refl refl (omega arith) (omega arith) (omega arith) (omega arith) (λ b x i j k. (omega arith, above (omega arith) (omega arith)))),
+                (λ f l. forth-three (rowAt 4 wellFormed) a s refl refl (omega arith) (omega arith) (omega arith) (omega arith)
+                    (λ b x i j k. (omega arith, above (omega arith) (omega arith)))),
                 (
                   (λ f l. forth-four (rowAt 5 wellFormed) a s refl refl (omega arith) (omega arith) f (λ b x i j k. (omega arith, omega arith))),
                   (
-                    (λ f l. forth-four (rowAt 6 wellFormed) a s refl refl (omega arith) (omega arith) (omega arith) (λ b x i j k. (omega arith, omega arith))),
+                    (λ f l. forth-four (rowAt 6 wellFormed) a s refl refl (omega arith) (omega arith) (omega arith)
+                        (λ b x i j k. (omega arith, omega arith))),
                     (
-                      (λ f l. forth-four (rowAt 7 wellFormed) a s refl refl (omega arith) (omega arith) (omega arith) (λ b x i j k. (omega arith, omega arith))),
+                      (λ f l. forth-four (rowAt 7 wellFormed) a s refl refl (omega arith) (omega arith) (omega arith)
+                          (λ b x i j k. (omega arith, omega arith))),
                       tt,
                     ),
                   ),

@@ -3,9 +3,11 @@
 -- Whatever writeValue c g gives, readValue c reads it, with any bytes behind it, as the value that g stands for, and ends where it ends:
 --   writeValue c g ≡ gives b  →  valueOf g ≡ gives v, readValue c (b ++ rest) ≡ took v (length b).
 -- The same of a row, writeRow and readRow; and what a row's writer gives is its own normal form.
--- Asked of the values to be written is their range alone: an unsigned number of 8 bits, a whole number of 16, 32 or 64 bits, a float's bits, a GUID's sixteen bytes.
+-- Asked of the values to be written is their range alone: an unsigned number of 8 bits, a whole number of 16, 32 or 64 bits, a float's bits, a GUID's
+-- sixteen bytes.
 --
--- Why it holds: the writer's checks 6, 7, 3 and 5 are what it means that a value fits its column, and what fits reads again (Value.antt). A string's content is even
+-- Why it holds: the writer's checks 6, 7, 3 and 5 are what it means that a value fits its column, and what fits reads again (Value.antt). A string's
+-- content is even
 -- since UTF-16LE has two bytes or four for each character.
 -- Assumes nothing.
 use mathlib.Core.Path.{_≡_, refl, ap}

@@ -119,10 +119,12 @@ typeByte ssVariant = 0x62
 abbrev pub types : List TypeId
 types =
     fixedLen FixedLen.null ∷ fixedLen FixedLen.int1 ∷ fixedLen FixedLen.bit ∷ fixedLen FixedLen.int2 ∷ fixedLen FixedLen.int4 ∷ fixedLen FixedLen.datetime4
-    ∷ fixedLen FixedLen.float4 ∷ fixedLen FixedLen.money ∷ fixedLen FixedLen.datetime ∷ fixedLen FixedLen.float8 ∷ fixedLen FixedLen.money4 ∷ fixedLen FixedLen.int8
+    ∷ fixedLen FixedLen.float4 ∷ fixedLen FixedLen.money ∷ fixedLen FixedLen.datetime ∷ fixedLen FixedLen.float8
+    ∷ fixedLen FixedLen.money4 ∷ fixedLen FixedLen.int8
     ∷ byteLen ByteLen.guid ∷ byteLen ByteLen.intn ∷ byteLen ByteLen.bitn ∷ byteLen ByteLen.decimaln ∷ byteLen ByteLen.numericn ∷ byteLen ByteLen.floatn
     ∷ byteLen ByteLen.moneyn ∷ byteLen ByteLen.datetimen ∷ byteLen ByteLen.timen ∷ byteLen ByteLen.datetime2 ∷ byteLen ByteLen.datetimeOffsetn
-    ∷ uShortLen UShortLen.bigVarBin ∷ uShortLen UShortLen.bigVarChar ∷ uShortLen UShortLen.bigBinary ∷ uShortLen UShortLen.bigChar ∷ uShortLen UShortLen.nVarchar ∷ uShortLen UShortLen.nChar
+    ∷ uShortLen UShortLen.bigVarBin ∷ uShortLen UShortLen.bigVarChar ∷ uShortLen UShortLen.bigBinary ∷ uShortLen UShortLen.bigChar
+    ∷ uShortLen UShortLen.nVarchar ∷ uShortLen UShortLen.nChar
     ∷ longLen LongLen.image ∷ longLen LongLen.text ∷ longLen LongLen.nText
     ∷ daten ∷ xml ∷ udt ∷ ssVariant ∷ []
 
@@ -242,8 +244,11 @@ readUnits units s = readBytes (2 * units) s
 abbrev pub readName : ℕ → List ℕ → Read (List ℕ)
 readName w s = thenRead (readLow w) readUnits s
 
+abbrev pub namesOf : List ℕ → List ℕ → List ℕ → Schema
+namesOf a b c = record { database = inside a; owner = inside b; collection = inside c }
+
 abbrev pub withNames : List ℕ → List ℕ → List ℕ → Column
-withNames a b c = record { type = xml; length = 0; precision = 0; scale = 0; collation = none; schema = some (record { database = inside a; owner = inside b; collection = inside c }) }
+withNames a b c = record { type = xml; length = 0; precision = 0; scale = 0; collation = none; schema = some (namesOf a b c) }
 
 abbrev pub readThird : List ℕ → List ℕ → List ℕ → Read Column
 readThird a b s = mapRead (withNames a b) (readName 2 s)

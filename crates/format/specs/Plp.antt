@@ -1,4 +1,5 @@
--- Partially length-prefixed values: the eight bytes, the chunks, the walk. Document 01, "Values under a type", "Walking and joining"; MS-TDS, the rule PLP_BODY.
+-- Partially length-prefixed values: the eight bytes, the chunks, the walk. Document 01, "Values under a type", "Walking and joining"; MS-TDS, the rule
+-- PLP_BODY.
 use Prim.Native.Nat.{ℕ, zero, suc, _+_, _-_, _%_, _^_}
 use mathlib.Core.List.{List, [], _∷_, _++_}
 use mathlib.Core.Bool.{Bool, true, false, not}

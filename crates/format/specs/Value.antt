@@ -6,10 +6,12 @@ use mathlib.Core.Option.{Option, none, some}
 use lib.ListN.{length}
 use lib.Dec.{leb, ltb, eqb}
 use Rattle.lists.specs.Pick.{pick}
-use Rattle.format.specs.Answer.{Answer, gives, refuses, Read, took, stops, missing, kind, long, rule, notCarried, sequence, refuseIf, stopIf, thenRead, mapRead, andThen, Part, inside, outside}
+use Rattle.format.specs.Answer.{Answer, gives, refuses, Read, took, stops, missing, kind, long, rule, notCarried, sequence, refuseIf, stopIf}
+use Rattle.format.specs.Answer.{thenRead, mapRead, andThen, Part, inside, outside}
 use Rattle.format.specs.Number.{lowBytes, readByte, readLow, readBytes}
 use Rattle.format.specs.Text.{textIn}
-use Rattle.format.specs.Descriptor.{FixedLen, ByteLen, UShortLen, TypeId, fixedLen, byteLen, uShortLen, longLen, daten, xml, udt, ssVariant, fixedByte, byteLenByte, uShortLenByte, Column, keepsRule}
+use Rattle.format.specs.Descriptor.{FixedLen, ByteLen, UShortLen, TypeId, fixedLen, byteLen, uShortLen, longLen, daten, xml, udt, ssVariant}
+use Rattle.format.specs.Descriptor.{fixedByte, byteLenByte, uShortLenByte, Column, keepsRule}
 use Rattle.format.specs.Scalar.{Kind, Scalar, width, kindOf, scalarBytes, readScalar, sameKind, isOneOf}
 use Rattle.format.specs.Plp.{plpMark, plpBound, isOdd, readPlp, plpBytes}
 

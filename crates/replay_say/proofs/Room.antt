@@ -26,7 +26,8 @@ filled-at (suc n) zero h = refl
 filled-at (suc n) (suc i) h = filled-at n i (omega arith)
 
 -- one turn of filling, and its end
-pub filled-turn : (room₀ room : List ℕ) (i : ℕ) → i < length room₀ → room ≡ front (filled (length room₀)) i room₀ → set room i filler ≡ front (filled (length room₀)) (i + 1) room₀
+pub filled-turn : (room₀ room : List ℕ) (i : ℕ) → i < length room₀ → room ≡ front (filled (length room₀)) i room₀ →
+    set room i filler ≡ front (filled (length room₀)) (i + 1) room₀
 filled-turn room₀ room i h e =
     let l = filled-length (length room₀) in
     let a : getD (filled (length room₀)) i 0 ≡ filler = filled-at (length room₀) i h in
@@ -50,7 +51,8 @@ count-le b = go (eqb b filler)
     go true = omega arith
     go false = omega arith
 
-pub counted-turn : (s : List ℕ) (i n : ℕ) → i < length s → n + changedIn (drop i s) ≡ changedIn s → (n + countOf (getD s i 0)) + changedIn (drop (i + 1) s) ≡ changedIn s
+pub counted-turn : (s : List ℕ) (i n : ℕ) → i < length s → n + changedIn (drop i s) ≡ changedIn s →
+    (n + countOf (getD s i 0)) + changedIn (drop (i + 1) s) ≡ changedIn s
 counted-turn s i n h e =
     let d : drop i s ≡ getD s i 0 ∷ drop (i + 1) s = rw (add-one i) (drop-cons s i 0 h) in
     let f : changedIn (drop i s) ≡ countOf (getD s i 0) + changedIn (drop (i + 1) s) = counted (drop i s) (getD s i 0) (drop (i + 1) s) d in

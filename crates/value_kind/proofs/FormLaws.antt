@@ -61,7 +61,8 @@ none-left [] h = refl
 none-left (b ∷ bs) h = absurd (omega arith)
 
 plp-count : (c : List ℕ) →
-    (12 ≤ length (formed true c)) × (length (formed true c) ≡ 12 → length c ≡ 0) × ((length (formed true c) ≡ 12 → ⊥) → (0 < length c) × (length (formed true c) ≡ 16 + length c))
+    (12 ≤ length (formed true c)) × (length (formed true c) ≡ 12 → length c ≡ 0)
+    × ((length (formed true c) ≡ 12 → ⊥) → (0 < length c) × (length (formed true c) ≡ 16 + length c))
 unfolding plpBytes
 plp-count [] = (omega arith, λ e. refl, λ f. absurd (f refl))
 plp-count (b ∷ bs) =
@@ -178,6 +179,8 @@ module _ (buffer : List ℕ) (start count n : ℕ) (k : ContentKind) where
   pub untyped-written : (short : Bool) → short ≡ leb count (shortUpTo k) → gives n ≡ wrote (writeUntyped (givenOf k (part buffer start count))) →
       writeUntyped (givenOf k (part buffer start count)) ≡ headed (untypedHead k short) (not short) (encodedPart k (part buffer start count))
   untyped-written short i h =
-      let e : writeUntyped (givenOf k (part buffer start count)) ≡ andThen (encodedPart k (part buffer start count)) (framed (untypedHead k short) (not short) (untypedLimit short)) =
+      let e :
+      writeUntyped (givenOf k (part buffer start count))
+      ≡ andThen (encodedPart k (part buffer start count)) (framed (untypedHead k short) (not short) (untypedLimit short)) =
       rw i (untyped-span buffer start count k) in
       e ∙ framed-written (untypedHead k short) (not short) (untypedLimit short) (encodedPart k (part buffer start count)) n (h ∙ ap wrote e)

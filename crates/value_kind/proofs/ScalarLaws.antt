@@ -65,12 +65,15 @@ wrote-if false e a = refl
 
 module _ (d : ℕ) (s : Scalar) where
   pub fixed-scalar : (k : S.Kind) →
-      wrote (writeFamily d (some (fixedWidth k)) (Given.scalar (scalarTold s))) ≡ refuseIf (not (sameKind (kindOf (scalarTold s)) k)) kind (gives (width (kindOf (scalarTold s))))
+      wrote (writeFamily d (some (fixedWidth k)) (Given.scalar (scalarTold s)))
+      ≡ refuseIf (not (sameKind (kindOf (scalarTold s)) k)) kind (gives (width (kindOf (scalarTold s))))
   unfolding wrote
   fixed-scalar k = wrote-if (not (sameKind (kindOf (scalarTold s)) k)) kind (gives (scalarBytes (scalarTold s))) ∙ rw (length-bytes s)
 
   pub listed-scalar : (ks : List S.Kind) →
-      wrote (writeFamily d (some (lengthByte ks)) (Given.scalar (scalarTold s))) ≡ refuseIf (not (isOneOf ks (kindOf (scalarTold s)))) kind (refuseIf (ltb d (width (kindOf (scalarTold s)))) long (gives (1 + width (kindOf (scalarTold s)))))
+      wrote (writeFamily d (some (lengthByte ks)) (Given.scalar (scalarTold s)))
+      ≡ refuseIf (not (isOneOf ks (kindOf (scalarTold s)))) kind
+      (refuseIf (ltb d (width (kindOf (scalarTold s)))) long (gives (1 + width (kindOf (scalarTold s)))))
   unfolding wrote
   listed-scalar ks =
       let v = scalarTold s in

@@ -45,7 +45,8 @@ returns c =
       c .read-third .ensures .0
           ∙
           sym
-          (at-then (readName 1) (readThird (nameBytes (a .s .now) (a .first))) (a .s .now) (a .cursor .at) (stays-name 1) (nameBytes (a .s .now) t) (next .at) e),
+          (at-then (readName 1) (readThird (nameBytes (a .s .now) (a .first))) (a .s .now) (a .cursor .at) (stays-name 1)
+          (nameBytes (a .s .now) t) (next .at) e),
       third-names (a .s .now) (a .first) t (next .at + 2) (c .read-third .result) (omega (arith, start .pre .0, f .0)) (omega (arith, f .1))
           (c .read-third .ensures .1),
     )

@@ -48,7 +48,8 @@ returns-2 c =
     let g = after-e .e .given in
     let e = sym (after-read-name .read-name .ensures .0) ∙ ap (nameReadTold (a .s .now)) (g .1) in (
       sym
-          (at-map-stops (withNames (nameBytes (a .s .now) (a .first)) (nameBytes (a .s .now) (a .second))) (readName 2) (a .s .now) (a .cursor .at) (refusalTold (g .0 .0)) e),
+          (at-map-stops (withNames (nameBytes (a .s .now) (a .first)) (nameBytes (a .s .now) (a .second))) (readName 2) (a .s .now) (a .cursor .at)
+          (refusalTold (g .0 .0)) e),
       tt,
     )
 

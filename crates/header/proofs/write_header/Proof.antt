@@ -42,7 +42,8 @@ put-high-requires-2 c κs = omega (arith, simp length-set at (c .before .before 
 
 -- the callees keep the length
 kept : (c : tie.After-slice-known3) →
-    length (c .before .before .put-high2 .last .0) ≡ length (c .before .before .before .before .before .before .before .before .before .before .before .before .before .before .args .out .now)
+    let start = c .before .before .before .before .before .before .before .before .before .before .before .before .before .before in
+    length (c .before .before .put-high2 .last .0) ≡ length (start .args .out .now)
 kept c =
     let after-put-high2 = c .before .before in
     let after-put-high = after-put-high2 .before .before .before .before .before in

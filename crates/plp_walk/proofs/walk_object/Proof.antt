@@ -1,4 +1,5 @@
--- `plp_walk::walk_object` meets its contract: a walk of its MIR, by hand. An object is made of the slice passed and of where a walk stands, in the result's local.
+-- `plp_walk::walk_object` meets its contract: a walk of its MIR, by hand. An object is made of the slice passed and of where a walk stands, in the result's
+-- local.
 -- A `&[u8]` is Copy, so what it owns is had twice: once for the input at exit, and once inside the result, beside the facts of where the walk stands.
 -- Assumes nothing.
 use mathlib.Core.Path.{refl}

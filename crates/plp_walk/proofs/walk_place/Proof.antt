@@ -1,4 +1,5 @@
--- `plp_walk::walk_place` meets its contract: a walk of its MIR, by hand. A number is read from a field of a field of a field, and the object is seen at exit as it was
+-- `plp_walk::walk_place` meets its contract: a walk of its MIR, by hand. A number is read from a field of a field of a field, and the object is seen at
+-- exit as it was
 -- passed. That the number fits its type is in the struct's relation, at the field's place.
 -- Assumes nothing.
 use mathlib.Core.Path.{refl}

@@ -11,7 +11,9 @@ use Rattle.text.proofs.to_utf16.Statement.{statement}
 use Rattle.text.proofs.to_utf16.Tie as tie
 
 -- the size that was found
-found : (c : tie.After-size) → gives (c .size .given .0 .0) ≡ wrote (textIn (now (c .before .before .before .before .before .args .s)))
+found : (c : tie.After-size) →
+    let start = c .before .before .before .before .before in
+    gives (c .size .given .0 .0) ≡ wrote (textIn (now (start .args .s)))
 found c = sym (ap wroteTold (c .size .given .1)) ∙ c .before .before .utf16-size .ensures
 
 utf16-size-requires : tie.Need-utf16-size-requires

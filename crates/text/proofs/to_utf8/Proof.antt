@@ -11,7 +11,9 @@ use Rattle.text.proofs.to_utf8.Statement.{statement}
 use Rattle.text.proofs.to_utf8.Tie as tie
 
 -- the size that was found
-found : (c : tie.After-size) → gives (c .size .given .0 .0) ≡ wrote (textOut (now (c .before .before .before .before .before .args .u)))
+found : (c : tie.After-size) →
+    let start = c .before .before .before .before .before in
+    gives (c .size .given .0 .0) ≡ wrote (textOut (now (start .args .u)))
 found c = sym (ap wroteTold (c .size .given .1)) ∙ c .before .before .utf8-size .ensures
 
 utf8-size-requires : tie.Need-utf8-size-requires

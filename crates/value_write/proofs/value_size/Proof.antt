@@ -21,8 +21,8 @@ cast-in-family c =
     let after-keeps-rule = in-if1 .before in
     let start = after-keeps-rule .before .before in
     let a = start .args in
-    record
-    { fits = omega (arith, length-fits (columnTold (a .buffer .now) (a .c)) (sym (after-keeps-rule .keeps-rule .ensures (a .buffer .now)) ∙ in-if1 .if1 .taken)) }
+    let kept = sym (after-keeps-rule .keeps-rule .ensures (a .buffer .now)) ∙ in-if1 .if1 .taken in
+    record { fits = omega (arith, length-fits (columnTold (a .buffer .now) (a .c)) kept) }
 
 in-family-requires : tie.Need-in-family-requires
 in-family-requires c κs = search needs

@@ -25,8 +25,8 @@ cast-write-in c =
     let after-keeps-rule = in-if1 .before in
     let start = after-keeps-rule .before .before .before in
     let a = start .args in
-    record
-    { fits = omega (arith, length-fits (columnTold (a .buffer .now) (a .c)) (sym (after-keeps-rule .keeps-rule .ensures (a .buffer .now)) ∙ in-if1 .if1 .taken)) }
+    let kept = sym (after-keeps-rule .keeps-rule .ensures (a .buffer .now)) ∙ in-if1 .if1 .taken in
+    record { fits = omega (arith, length-fits (columnTold (a .buffer .now) (a .c)) kept) }
 
 write-in-requires : tie.Need-write-in-requires
 write-in-requires c κs = search needs

@@ -54,10 +54,12 @@ put-collation-requires c κs =
 
 put-schema-requires : tie.Need-put-schema-requires
 put-schema-requires c κs =
-    let start = c .before .before .before .before .before .before .before .before .before .before .before .before .before .before .before .before .before .before .before .before .before in
+    let digits-at = c .before .before .before .before .before .before .before in
+    let width-at = digits-at .before .before .before .before .before .before .before .before .before .before .before in
+    let start = width-at .before .before .before in
     let l = length-column (columnTold (start .args .names .now) (start .args .c)) in
-    let width = c .before .before .before .before .before .before .before .before .before .before .before .before .before .before .before .before .before .before .length-width .ensures in
-    let digits = c .before .before .before .before .before .before .before .put-digits .ensures .1 in
+    let width = width-at .length-width .ensures in
+    let digits = digits-at .put-digits .ensures .1 in
     let collation = c .before .before .before .put-collation .ensures .1 in
     (start .pre .0, omega (arith, l, start .pre .1, width, digits, collation))
 

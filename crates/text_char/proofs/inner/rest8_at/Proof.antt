@@ -16,17 +16,20 @@ use Rattle.text_char.proofs.inner.rest8_at.Tie as tie
 second-stands : (c : tie.Else1) → let a = c .before .before .before .args in standsIn (a .row .low) (a .row .high) (drop (a .at) (now (a .s))) ≡ true
 second-stands c = sym (c .before .stands .ensures) ∙ not-false _ (c .if1 .left)
 
-third-stands : (c : tie.Else3) → let a =
-    c .before .before .before .before .before .before .before .before .before .args in standsIn 0x80 0xBF (drop (a .at + 1) (now (a .s))) ≡ true
+third-stands : (c : tie.Else3) →
+    let start = c .before .before .before .before .before .before .before .before .before in
+    standsIn 0x80 0xBF (drop (start .args .at + 1) (now (start .args .s))) ≡ true
 third-stands c = sym (c .before .stands2 .ensures) ∙ not-false _ (c .if3 .left)
 
-fourth-stands : (c : tie.Else5) → let a =
-    c .before .before .before .before .before .before .before .before .before .before .before .before .before .before .args in standsIn 0x80 0xBF
-    (drop (a .at + 2) (now (a .s))) ≡ true
+fourth-stands : (c : tie.Else5) →
+    let start = c .before .before .before .before .before .before .before .before .before .before .before .before .before .before in
+    standsIn 0x80 0xBF (drop (start .args .at + 2) (now (start .args .s))) ≡ true
 fourth-stands c = sym (c .before .stands3 .ensures) ∙ not-false _ (c .if5 .left)
 
 -- neither none nor one: two follow the second
-last-two : (c : tie.Else4) → c .before .before .before .before .before .before .before .before .before .before .before .before .args .row .more ≡ 2
+last-two : (c : tie.Else4) →
+    let start = c .before .before .before .before .before .before .before .before .before .before .before .before in
+    start .args .row .more ≡ 2
 last-two c =
     let in-if2 = c .before .before .before .before .before in
     let start = in-if2 .before .before .before .before .before .before .before in

@@ -12,8 +12,9 @@ use Rattle.text_char.proofs.utf8.char8_at.Statement.{statement}
 use Rattle.text_char.proofs.utf8.char8_at.Tie as tie
 
 -- the row that was found
-found : (c : tie.After-row) → let a =
-    c .before .before .before .before .before .before .before .args in leadIn wellFormed (getD (now (a .s)) (a .at) 0) ≡ chosen (rowTold (c .row .given .0 .0))
+found : (c : tie.After-row) →
+    let start = c .before .before .before .before .before .before .before in
+    leadIn wellFormed (getD (now (start .args .s)) (start .args .at) 0) ≡ chosen (rowTold (c .row .given .0 .0))
 found c = sym (c .before .before .row-of .ensures) ∙ ap leadTold (c .row .given .1)
 
 returns : tie.Need-returns

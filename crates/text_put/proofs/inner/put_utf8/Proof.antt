@@ -1,4 +1,5 @@
--- `text_put::inner::put_utf8` meets its contract. The invariant: the bytes written stand at the front, and what is still to write is what the text comes to from here on.
+-- `text_put::inner::put_utf8` meets its contract. The invariant: the bytes written stand at the front, and what is still to write is what the text comes to
+-- from here on.
 -- Assumes nothing.
 use mathlib.Core.Path.{_≡_, refl, sym, ap, _∙_}
 use Prim.Native.Nat.{_-_, _≤_}

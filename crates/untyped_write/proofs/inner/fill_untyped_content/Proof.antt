@@ -99,7 +99,8 @@ returns c =
     let r = head-room (untypedHead k short) (not short) a _ (start .pre ∙ ap wrote e) in
     sym
     (e ∙
-    sym (head-filled (untypedHead k short) (not short) a (start .args .out .now) _ _ _ _ (start .pre ∙ ap wrote e) (after-untyped-head .untyped-head .ensures short) (after-put-head .put-head .ensures) (after-fill-span .fill-span .ensures) refl))
+    sym (head-filled (untypedHead k short) (not short) a (start .args .out .now) _ _ _ _ (start .pre ∙ ap wrote e)
+    (after-untyped-head .untyped-head .ensures short) (after-put-head .put-head .ensures) (after-fill-span .fill-span .ensures) refl))
 
 pub fill-untyped-content-spec : {M : Type 1} → statement M
 fill-untyped-content-spec =

@@ -62,7 +62,13 @@ returns c =
     let after-put-byte = after-put-low .before .before .before .before in
     let after-enum-told = after-put-byte .before .before .before in
     let after-untyped-length = after-enum-told .before .before in
-    rw (after-enum-told .enum-told .given .1, after-put-low .put-low .ensures, after-put-byte .put-byte .ensures, after-put-byte .before .u-short-len-byte .ensures, after-untyped-length .untyped-length .ensures)
+    rw (
+      after-enum-told .enum-told .given .1,
+      after-put-low .put-low .ensures,
+      after-put-byte .put-byte .ensures,
+      after-put-byte .before .u-short-len-byte .ensures,
+      after-untyped-length .untyped-length .ensures,
+    )
 
 same-length-2 : tie.Need-same-length-2
 same-length-2 c = search needs

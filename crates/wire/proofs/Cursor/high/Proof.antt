@@ -37,7 +37,9 @@ returns c =
     let a = start .args in
     let b = after-bytes .bytes .result in
     let e : b ≡ widthOf (a .w) = after-bytes .bytes .ensures in
-    let f : took (c .high-at .result) (a .self .at + b) ≡ took (highNat (take (widthOf (a .w)) (drop (a .self .at) (a .s .now)))) (a .self .at + widthOf (a .w)) =
+    let f :
+    took (c .high-at .result) (a .self .at + b)
+    ≡ took (highNat (take (widthOf (a .w)) (drop (a .self .at) (a .s .now)))) (a .self .at + widthOf (a .w)) =
     rw (c .high-at .ensures .0, e) in
     let l : a .self .at + widthOf (a .w) ≤ length (a .s .now) = omega (arith, e, there (place-1)) in
     (f ∙ high-there (a .s .now) (a .self .at) (widthOf (a .w)) l, rw e at (c .high-at .ensures .1))
