@@ -43,7 +43,7 @@ pub fn to_utf16(s: &[u8], out: &mut [u8]) -> Wrote
             if out.len() < n {
                 return Wrote::Refused(Refusal::Room);
             }
-            inner::put_utf16(s, out);
+            inner::write_utf16(s, out);
             Wrote::Bytes(n)
         }
         Wrote::Refused(e) => Wrote::Refused(e),
@@ -85,7 +85,7 @@ pub fn to_utf8(u: &[u8], out: &mut [u8]) -> Wrote
             if out.len() < m {
                 return Wrote::Refused(Refusal::Room);
             }
-            inner::put_utf8(u, out);
+            inner::write_utf8(u, out);
             Wrote::Bytes(m)
         }
         Wrote::Refused(e) => Wrote::Refused(e),

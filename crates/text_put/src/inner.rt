@@ -68,7 +68,7 @@ pub fn put_char8(out: &mut [u8], o: usize, c: u32) -> usize
 }
 
 // A text in UTF-8 as UTF-16LE, at the front of the room.
-pub fn put_utf16(s: &[u8], out: &mut [u8])
+pub fn write_utf16(s: &[u8], out: &mut [u8])
     requires { ⌜ Fitting (textIn (now s)) (length (now out)) ⌝ }
     ensures { λ _. ⌜ now (out .exit) ≡ roomAfter (textIn (now (s .entry))) (now (out .entry)) ⌝ }
 {
@@ -89,7 +89,7 @@ pub fn put_utf16(s: &[u8], out: &mut [u8])
 }
 
 // A text in UTF-16LE as UTF-8, at the front of the room.
-pub fn put_utf8(u: &[u8], out: &mut [u8])
+pub fn write_utf8(u: &[u8], out: &mut [u8])
     requires { ⌜ Fitting (textOut (now u)) (length (now out)) ⌝ }
     ensures { λ _. ⌜ now (out .exit) ≡ roomAfter (textOut (now (u .entry))) (now (out .entry)) ⌝ }
 {

@@ -30,7 +30,7 @@ fn fill_untyped_scalar(s: Scalar, out: &mut [u8])
 }
 
 // The descriptor in front of content: type byte, declared length, and a string's collation.
-fn put_head(k: ContentKind, short: bool, out: &mut [u8])
+fn write_head(k: ContentKind, short: bool, out: &mut [u8])
     requires { ⌜ length (untypedHead (contentKindTold k) short) ≤ length (now out) ⌝ }
     ensures { λ _. ⌜ now (out .exit) ≡ sets (now (out .entry)) 0 (untypedHead (contentKindTold k) short) ⌝ }
 {
@@ -54,7 +54,7 @@ fn fill_untyped_content(k: ContentKind, p: Span, buffer: &[u8], out: &mut [u8])
     ensures { λ _. ⌜ gives (now (out .exit)) ≡ writeUntyped (givenOf (contentKindTold k) (spanTold (now (buffer .entry)) p)) ⌝ }
 {
     let short = untyped_size::is_short(k, p.count);
-    put_head(k, short, out);
+    write_head(k, short, out);
     let head = untyped_size::untyped_head(k) as usize;
     value_fill::inner::fill_span(k, p, buffer, !short, &mut out[head..]);
 }

@@ -84,7 +84,7 @@ fn fill_content(k: ContentKind, s: &[u8], out: &mut [u8])
 {
     match k {
         ContentKind::Binary => wire::inner::copy(s, out),
-        ContentKind::String => text_put::inner::put_utf16(s, out),
+        ContentKind::String => text_put::inner::write_utf16(s, out),
     }
 }
 

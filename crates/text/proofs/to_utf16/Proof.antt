@@ -29,8 +29,8 @@ returns c =
     let a = start .args in
     sized-short (now (a .out)) (after-size .size .given .0 .0) (textIn (now (a .s))) (found after-size) (c .if1 .taken)
 
-put-utf16-requires : tie.Need-put-utf16-requires
-put-utf16-requires c κs =
+write-utf16-requires : tie.Need-write-utf16-requires
+write-utf16-requires c κs =
     let in-if1 = c .before in
     let after-size = in-if1 .before .before in
     let start = after-size .before .before .before .before .before in
@@ -45,13 +45,13 @@ same-length c = search needs
 
 returns-2 : tie.Need-returns-2
 returns-2 c =
-    let after-put-utf16 = c .before .before in
-    let in-if1 = after-put-utf16 .before .before in
+    let after-write-utf16 = c .before .before in
+    let in-if1 = after-write-utf16 .before .before in
     let after-size = in-if1 .before .before in
     let start = after-size .before .before .before .before .before in
     let a = start .args in
     sized-written (now (a .out)) (after-size .size .given .0 .0) (textIn (now (a .s))) _ (found after-size) (in-if1 .if1 .left)
-    (after-put-utf16 .put-utf16 .ensures)
+    (after-write-utf16 .write-utf16 .ensures)
 
 returns-3 : tie.Need-returns-3
 returns-3 c =
@@ -68,7 +68,7 @@ to-utf16-spec =
     utf16-size-requires
     enum-known-size
     returns
-    put-utf16-requires
+    write-utf16-requires
     enum-known-size-2
     same-length
     returns-2

@@ -29,8 +29,8 @@ returns c =
     let a = start .args in
     sized-short (now (a .out)) (after-size .size .given .0 .0) (textOut (now (a .u))) (found after-size) (c .if1 .taken)
 
-put-utf8-requires : tie.Need-put-utf8-requires
-put-utf8-requires c κs =
+write-utf8-requires : tie.Need-write-utf8-requires
+write-utf8-requires c κs =
     let in-if1 = c .before in
     let after-size = in-if1 .before .before in
     let start = after-size .before .before .before .before .before in
@@ -45,13 +45,13 @@ same-length c = search needs
 
 returns-2 : tie.Need-returns-2
 returns-2 c =
-    let after-put-utf8 = c .before .before in
-    let in-if1 = after-put-utf8 .before .before in
+    let after-write-utf8 = c .before .before in
+    let in-if1 = after-write-utf8 .before .before in
     let after-size = in-if1 .before .before in
     let start = after-size .before .before .before .before .before in
     let a = start .args in
     sized-written (now (a .out)) (after-size .size .given .0 .0) (textOut (now (a .u))) _ (found after-size) (in-if1 .if1 .left)
-    (after-put-utf8 .put-utf8 .ensures)
+    (after-write-utf8 .write-utf8 .ensures)
 
 returns-3 : tie.Need-returns-3
 returns-3 c =
@@ -68,7 +68,7 @@ to-utf8-spec =
     utf8-size-requires
     enum-known-size
     returns
-    put-utf8-requires
+    write-utf8-requires
     enum-known-size-2
     same-length
     returns-2

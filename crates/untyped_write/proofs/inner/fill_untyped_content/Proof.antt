@@ -16,8 +16,8 @@ use Rattle.untyped_write.proofs.inner.fill_untyped_content.Tie as tie
 is-short-requires : tie.Need-is-short-requires
 is-short-requires c κs = search needs
 
-put-head-requires : tie.Need-put-head-requires
-put-head-requires c κs =
+write-head-requires : tie.Need-write-head-requires
+write-head-requires c κs =
     let after-is-short = c .before in
     let start = after-is-short .before .before .before in
     let k = contentKindTold (start .args .k) in
@@ -36,8 +36,8 @@ cast-head c = search needs
 
 sub-fill-span : tie.Need-sub-fill-span
 sub-fill-span c =
-    let after-put-head = c .before .before .before in
-    let after-is-short = after-put-head .before .before in
+    let after-write-head = c .before .before .before in
+    let after-is-short = after-write-head .before .before in
     let start = after-is-short .before .before .before in
     let k = contentKindTold (start .args .k) in
     let p = start .args .p in
@@ -45,12 +45,12 @@ sub-fill-span c =
     let a = encodedPart k (spanTold (start .args .buffer .now) p) in
     let e = untyped-written (start .args .buffer .now) (p .start) (p .count) _ k short (after-is-short .is-short .ensures) (start .pre) in
     let r = head-room (untypedHead k short) (not short) a _ (start .pre ∙ ap wrote e) in
-    omega (arith, r .0, after-put-head .put-head .kept .1 .1 .0, c .untyped-head .ensures short)
+    omega (arith, r .0, after-write-head .write-head .kept .1 .1 .0, c .untyped-head .ensures short)
 
 part-fill-span-start : tie.Need-part-fill-span-start
 part-fill-span-start c =
-    let after-put-head = c .before .before .before in
-    let after-is-short = after-put-head .before .before in
+    let after-write-head = c .before .before .before in
+    let after-is-short = after-write-head .before .before in
     let start = after-is-short .before .before .before in
     let k = contentKindTold (start .args .k) in
     let p = start .args .p in
@@ -58,7 +58,7 @@ part-fill-span-start c =
     let a = encodedPart k (spanTold (start .args .buffer .now) p) in
     let e = untyped-written (start .args .buffer .now) (p .start) (p .count) _ k short (after-is-short .is-short .ensures) (start .pre) in
     let r = head-room (untypedHead k short) (not short) a _ (start .pre ∙ ap wrote e) in
-    omega (arith, r .0, after-put-head .put-head .kept .1 .1 .0, c .untyped-head .ensures short)
+    omega (arith, r .0, after-write-head .write-head .kept .1 .1 .0, c .untyped-head .ensures short)
 
 part-fill-span-end : tie.Need-part-fill-span-end
 part-fill-span-end c = search needs
@@ -66,8 +66,8 @@ part-fill-span-end c = search needs
 fill-span-requires : tie.Need-fill-span-requires
 fill-span-requires c κs =
     let after-untyped-head = c .before in
-    let after-put-head = after-untyped-head .before .before .before in
-    let after-is-short = after-put-head .before .before in
+    let after-write-head = after-untyped-head .before .before .before in
+    let after-is-short = after-write-head .before .before in
     let start = after-is-short .before .before .before in
     let k = contentKindTold (start .args .k) in
     let p = start .args .p in
@@ -75,10 +75,10 @@ fill-span-requires c κs =
     let a = encodedPart k (spanTold (start .args .buffer .now) p) in
     let e = untyped-written (start .args .buffer .now) (p .start) (p .count) _ k short (after-is-short .is-short .ensures) (start .pre) in
     let r = head-room (untypedHead k short) (not short) a _ (start .pre ∙ ap wrote e) in
-    let one = after-put-head .put-head .last .1 .1 .0 in
+    let one = after-write-head .write-head .last .1 .1 .0 in
     let m = after-untyped-head .untyped-head .result in
     let i = after-untyped-head .untyped-head .ensures short in
-    let z = after-put-head .put-head .kept .1 .1 .0 in
+    let z = after-write-head .write-head .kept .1 .1 .0 in
     rw (span-count one m (length one - m) (omega (arith, z, r .0)), z, i) (r .1)
 
 same-length : tie.Need-same-length
@@ -88,8 +88,8 @@ returns : tie.Need-returns
 returns c =
     let after-fill-span = c .before .before in
     let after-untyped-head = after-fill-span .before .before in
-    let after-put-head = after-untyped-head .before .before .before in
-    let after-is-short = after-put-head .before .before in
+    let after-write-head = after-untyped-head .before .before .before in
+    let after-is-short = after-write-head .before .before in
     let start = after-is-short .before .before .before in
     let k = contentKindTold (start .args .k) in
     let p = start .args .p in
@@ -100,14 +100,14 @@ returns c =
     sym
     (e ∙
     sym (head-filled (untypedHead k short) (not short) a (start .args .out .now) _ _ _ _ (start .pre ∙ ap wrote e)
-    (after-untyped-head .untyped-head .ensures short) (after-put-head .put-head .ensures) (after-fill-span .fill-span .ensures) refl))
+    (after-untyped-head .untyped-head .ensures short) (after-write-head .write-head .ensures) (after-fill-span .fill-span .ensures) refl))
 
 pub fill-untyped-content-spec : {M : Type 1} → statement M
 fill-untyped-content-spec =
     tie.close
     (tie.spec
     is-short-requires
-    put-head-requires
+    write-head-requires
     untyped-head-requires
     cast-head
     sub-fill-span

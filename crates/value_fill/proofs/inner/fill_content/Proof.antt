@@ -20,8 +20,8 @@ copy-requires c κs =
 enum-told-2 : tie.Need-enum-told-2
 enum-told-2 c = search needs
 
-put-utf16-requires : tie.Need-put-utf16-requires
-put-utf16-requires c κs =
+write-utf16-requires : tie.Need-write-utf16-requires
+write-utf16-requires c κs =
     let after-enum-told2 = c .before in
     let start = after-enum-told2 .before .before .before .before in
     sized-fits (start .args .out .now) _ (textIn (start .args .s .now)) (rw (after-enum-told2 .enum-told2 .given .1) at (start .pre)) (omega arith)
@@ -42,12 +42,12 @@ same-length-2 c = search needs
 
 returns-2 : tie.Need-returns-2
 returns-2 c =
-    let after-put-utf16 = c .before .before in
-    let after-enum-told2 = after-put-utf16 .before .before in
+    let after-write-utf16 = c .before .before in
+    let after-enum-told2 = after-write-utf16 .before .before in
     let start = after-enum-told2 .before .before .before .before in
     rw (after-enum-told2 .enum-told2 .given .1)
     (leaves-none (textIn (start .args .s .now)) (start .args .out .now) _ (rw (after-enum-told2 .enum-told2 .given .1) at (start .pre))
-    (after-put-utf16 .put-utf16 .ensures))
+    (after-write-utf16 .write-utf16 .ensures))
 
 pub fill-content-spec : {M : Type 1} → statement M
 fill-content-spec =
@@ -56,7 +56,7 @@ fill-content-spec =
     enum-told
     copy-requires
     enum-told-2
-    put-utf16-requires
+    write-utf16-requires
     same-length
     returns
     same-length-2

@@ -1,5 +1,5 @@
--- `text_put::inner::put_utf16` meets its contract. The invariant: the bytes written stand at the front, and what is still to write is what the text comes
--- to from here on.
+-- `text_put::inner::write_utf8` meets its contract. The invariant: the bytes written stand at the front, and what is still to write is what the text comes to
+-- from here on.
 -- Assumes nothing.
 use mathlib.Core.Path.{_≡_, refl, sym, ap, _∙_}
 use Prim.Native.Nat.{_-_, _≤_}
@@ -8,56 +8,62 @@ use lib.ListN.{length}
 use denote.Ref.{now}
 use borrow.Author.Needs.{needs}
 use Rattle.format.specs.Answer.{gives}
-use Rattle.format.specs.Text.{char8, utf16, textIn}
+use Rattle.format.specs.Text.{char16, utf8, textOut}
 use Rattle.lists.proofs.Front.{front-none}
-use Rattle.format.proofs.Text.{in-gives}
+use Rattle.format.proofs.Number.{Bytes}
+use Rattle.format.proofs.Text.{out-gives}
 use Rattle.text_char.specs.Told.{charTold}
 use Rattle.wire.proofs.Writing.{given, fits-given, after-given}
-use Rattle.text_char.proofs.Turns.{Stands, stands8, Writing, write-room, write-more, write-stop, write-end}
-use Rattle.text_put.proofs.inner.put_utf16.Statement.{statement}
-use Rattle.text_put.proofs.inner.put_utf16.Tie as tie
+use Rattle.text_char.proofs.Turns.{Stands, stands16, last16, Writing, write-room, write-more, write-stop, write-end}
+use Rattle.text_put.proofs.inner.write_utf8.Statement.{statement}
+use Rattle.text_put.proofs.inner.write_utf8.Tie as tie
 
 abbrev Inv-loop : tie.InvT-loop
-Inv-loop s out₀ at₀ o₀ out at o = Writing char8 utf16 s (given (textIn s)) out₀ out at o
+Inv-loop u out₀ at₀ o₀ out at o = Writing char16 utf8 u (given (textOut u)) out₀ out at o
 
 abbrev μ-loop : tie.MeasureT-loop
-μ-loop s out₀ at₀ o₀ out at o = length s - at
+μ-loop u out₀ at₀ o₀ out at o = length u - at
 
 -- the bytes to write, and the room for them
 fits : (c : tie.After-slice-known Inv-loop μ-loop) → let a =
-    c .before .before .args in let t = textIn (now (a .s)) in (t ≡ gives (given t)) × (length (given t) ≤ length (now (a .out)))
-fits c = let a = c .before .before .args in fits-given (textIn (now (a .s))) (length (now (a .out))) (c .before .before .pre)
+    c .before .before .args in let t = textOut (now (a .u)) in (t ≡ gives (given t)) × (length (given t) ≤ length (now (a .out)))
+fits c = let a = c .before .before .args in fits-given (textOut (now (a .u))) (length (now (a .out))) (c .before .before .pre)
+
+bytes : (c : tie.At-loop Inv-loop μ-loop) → Bytes (now (c .before .before .before .args .u))
+bytes c i = omega (arith, c .before .before .shared-slice-known .given i)
 
 -- the character that was read
 read : (c : tie.After-t Inv-loop μ-loop) → let l =
-    c .before .before .before .before in Stands char8 (now (l .before .before .before .args .s)) (l .loop .at) (c .t .given .0 .0) (c .t .given .0 .1 .0)
-read c = stands8 (c .before .before .before .loop-test .taken) (sym (ap charTold (c .t .given .1)) ∙ c .before .before .char8-at .ensures)
+    c .before .before .before .before in Stands char16 (now (l .before .before .before .args .u)) (l .loop .at) (c .t .given .0 .0) (c .t .given .0 .1 .0)
+read c =
+    stands16 (bytes (c .before .before .before .before)) (c .before .before .before .loop-test .taken)
+    (sym (ap charTold (c .t .given .1)) ∙ c .before .before .char16-at .ensures)
 
 loop-holds : tie.Need-loop-holds Inv-loop μ-loop
 loop-holds c =
-    let s = now (c .before .before .args .s) in
-    record { inside = search needs; within = search needs; same = refl; holds = front-none _ _; left = in-gives s (given (textIn s)) (fits c .0) }
+    let u = now (c .before .before .args .u) in
+    record { inside = search needs; within = search needs; same = refl; holds = front-none _ _; left = out-gives u (given (textOut u)) (fits c .0) }
 
-char8-at-requires : tie.Need-char8-at-requires Inv-loop μ-loop
-char8-at-requires c κs = search needs
+char16-at-requires : tie.Need-char16-at-requires Inv-loop μ-loop
+char16-at-requires c κs = search needs
 
 enum-known-t : tie.Need-enum-known-t Inv-loop μ-loop
 enum-known-t c = search needs
 
-put-char16-requires : tie.Need-put-char16-requires Inv-loop μ-loop
-put-char16-requires c κs =
+put-char8-requires : tie.Need-put-char8-requires Inv-loop μ-loop
+put-char8-requires c κs =
     let place-2 = c .before .before in
     let at-loop = place-2 .before .before .before .before in
     let place-7 = at-loop .before in
-    write-room (at-loop .loop .inv) (read place-2) (fits (at-loop .before) .1)
+    (last16 (bytes at-loop) (read place-2), write-room (at-loop .loop .inv) (read place-2) (fits (at-loop .before) .1))
 
 loop-again : tie.Need-loop-again Inv-loop μ-loop
 loop-again c =
-    let after-put-char16 = c .before .before in
-    let place-5 = after-put-char16 .before .before .before in
+    let after-put-char8 = c .before .before in
+    let place-5 = after-put-char8 .before .before .before in
     let at-loop = place-5 .before .before .before .before in
     let place-10 = at-loop .before in
-    let p = after-put-char16 .put-char16 in
+    let p = after-put-char8 .put-char8 in
     write-more (at-loop .loop .inv) (read place-5) (fits (at-loop .before) .1) (p .ensures .0) (p .ensures .1)
 
 add-o : tie.Need-add-o Inv-loop μ-loop
@@ -89,10 +95,10 @@ same-length c = search needs
 returns : tie.Need-returns Inv-loop μ-loop
 returns c =
     let after-t2 = c .before in
-    let after-char8-at = after-t2 .before .before in
-    let in-loop = after-char8-at .before in
+    let after-char16-at = after-t2 .before .before in
+    let in-loop = after-char16-at .before in
     let at-loop = in-loop .before in
-    write-stop (at-loop .loop .inv) (in-loop .loop-test .taken) (sym (ap charTold (after-t2 .t2 .given .1)) ∙ after-char8-at .char8-at .ensures)
+    write-stop (at-loop .loop .inv) (in-loop .loop-test .taken) (sym (ap charTold (after-t2 .t2 .given .1)) ∙ after-char16-at .char16-at .ensures)
 
 same-length-2 : tie.Need-same-length-2 Inv-loop μ-loop
 same-length-2 c = search needs
@@ -103,18 +109,18 @@ returns-2 c =
     let place-2 = at-loop .before in
     let start = place-2 .before .before in
     let a = start .args in
-    write-end (at-loop .loop .inv) (c .loop-test .left) ∙ after-given (textIn (now (a .s))) (now (a .out)) (fits (at-loop .before) .0)
+    write-end (at-loop .loop .inv) (c .loop-test .left) ∙ after-given (textOut (now (a .u))) (now (a .out)) (fits (at-loop .before) .0)
 
-pub put-utf16-spec : {M : Type 1} → statement M
-put-utf16-spec =
+pub write-utf8-spec : {M : Type 1} → statement M
+write-utf8-spec =
     tie.close
     (tie.spec
     Inv-loop
     μ-loop
     loop-holds
-    char8-at-requires
+    char16-at-requires
     enum-known-t
-    put-char16-requires
+    put-char8-requires
     add-o
     add-at
     loop-less

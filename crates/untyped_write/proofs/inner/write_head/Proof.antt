@@ -1,8 +1,8 @@
--- `untyped_write::inner::put_head` meets its contract: the stores are one run, the descriptor's bytes. Assumes nothing.
+-- `untyped_write::inner::write_head` meets its contract: the stores are one run, the descriptor's bytes. Assumes nothing.
 use native.Mathlib.Omega.{arith}
 use borrow.Author.Needs.{needs}
-use Rattle.untyped_write.proofs.inner.put_head.Statement.{statement}
-use Rattle.untyped_write.proofs.inner.put_head.Tie as tie
+use Rattle.untyped_write.proofs.inner.write_head.Statement.{statement}
+use Rattle.untyped_write.proofs.inner.write_head.Tie as tie
 
 untyped-length-requires : tie.Need-untyped-length-requires
 untyped-length-requires c κs = search needs
@@ -89,8 +89,8 @@ returns-2 c =
       after-untyped-length .untyped-length .ensures,
     )
 
-pub put-head-spec : {M : Type 1} → statement M
-put-head-spec =
+pub write-head-spec : {M : Type 1} → statement M
+write-head-spec =
     tie.close
     (tie.spec
     untyped-length-requires
