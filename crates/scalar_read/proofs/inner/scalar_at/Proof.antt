@@ -1,16 +1,14 @@
 -- `scalar_read::inner::scalar_at` meets its contract: by the kind, each by its own reader. Assumes nothing.
-use mathlib.Core.Path.{_≡_, ap, _∙_}
+use mathlib.Core.Path.{ap, _∙_}
 use Prim.Native.Nat.{_+_, _≤_}
 use native.Mathlib.Omega.{arith}
-use mir.Facts.{toZ-ofZ}
 use mir.Syntax.{w16, w32, w64}
-use mir.Val.{toZ, ofZ}
 use lib.Dec.{lit≤}
 use lib.ListN.{length}
 use Rattle.format.specs.Scalar as S
 use Rattle.format.specs.Scalar.{scalarOf}
 use Rattle.format.proofs.Number.{Bytes}
-use Rattle.scalar_read.proofs.Reading.{guid-there}
+use Rattle.scalar_read.proofs.Reading.{whole, guid-there}
 use borrow.Author.Needs.{needs}
 use Rattle.scalar_read.proofs.inner.scalar_at.Statement.{statement}
 use Rattle.scalar_read.proofs.inner.scalar_at.Tie as tie
@@ -121,22 +119,22 @@ returns-3 : tie.Need-returns-3
 unfolding scalarOf
 returns-3 c =
     let read = c .before in
-    let whole : S.Scalar.i16 (toZ w16 (ofZ w16 (c .to-i16 .result))) ≡ S.Scalar.i16 (c .to-i16 .result) = ap S.Scalar.i16 (toZ-ofZ {w = w16} (record { sfits = c .to-i16 .ok })) in
-    (whole ∙ rw (read .before .enum-told3 .given .1, c .to-i16 .ensures, read .low-at3 .ensures .0), tt)
+    let e = ap S.Scalar.i16 (whole w16 (c .to-i16 .result) (c .to-i16 .ok)) in
+    (e ∙ rw (read .before .enum-told3 .given .1, c .to-i16 .ensures, read .low-at3 .ensures .0), tt)
 
 returns-4 : tie.Need-returns-4
 unfolding scalarOf
 returns-4 c =
     let read = c .before in
-    let whole : S.Scalar.i32 (toZ w32 (ofZ w32 (c .to-i32 .result))) ≡ S.Scalar.i32 (c .to-i32 .result) = ap S.Scalar.i32 (toZ-ofZ {w = w32} (record { sfits = c .to-i32 .ok })) in
-    (whole ∙ rw (read .before .enum-told4 .given .1, c .to-i32 .ensures, read .low-at4 .ensures .0), tt)
+    let e = ap S.Scalar.i32 (whole w32 (c .to-i32 .result) (c .to-i32 .ok)) in
+    (e ∙ rw (read .before .enum-told4 .given .1, c .to-i32 .ensures, read .low-at4 .ensures .0), tt)
 
 returns-5 : tie.Need-returns-5
 unfolding scalarOf
 returns-5 c =
     let read = c .before in
-    let whole : S.Scalar.i64 (toZ w64 (ofZ w64 (c .to-i64 .result))) ≡ S.Scalar.i64 (c .to-i64 .result) = ap S.Scalar.i64 (toZ-ofZ {w = w64} (record { sfits = c .to-i64 .ok })) in
-    (whole ∙ rw (read .before .enum-told5 .given .1, c .to-i64 .ensures, read .low-at5 .ensures .0), tt)
+    let e = ap S.Scalar.i64 (whole w64 (c .to-i64 .result) (c .to-i64 .ok)) in
+    (e ∙ rw (read .before .enum-told5 .given .1, c .to-i64 .ensures, read .low-at5 .ensures .0), tt)
 
 returns-6 : tie.Need-returns-6
 unfolding scalarOf
