@@ -2,3 +2,4 @@ pub mod ScalarLaws
 pub mod ContentLaws
 pub mod FormLaws
 pub mod ColumnLaws
+pub mod Canonical

@@ -1,8 +1,10 @@
 -- What this crate's declared types tell, in the words of `format`.
-use Prim.Native.Nat.{ℕ}
+use Prim.Native.Nat.{ℕ, _^_, _<_}
+use mathlib.Core.Path.{_≡_}
+use mathlib.Core.Bool.{true, false}
 use mathlib.Core.List.{List, [], _∷_}
 use mathlib.Core.Option.{Option, none, some}
-use lib.Ieee.{binary32, binary64, toBits}
+use lib.Ieee.{Format, Float, binary32, binary64, nanBits, ofBits, toBits}
 use Rattle.lists.specs.Pick.{pick}
 use Rattle.format.specs.Answer.{Part, part}
 use Rattle.format.specs.Number.{unsigned}
@@ -47,6 +49,23 @@ scalarTold (C.F32Nan n) = S.Scalar.f32 n
 scalarTold (C.F64 x) = S.Scalar.f64 (toBits binary64 x)
 scalarTold (C.F64Nan n) = S.Scalar.f64 n
 scalarTold (C.Guid g) = S.Scalar.guid (guidBytes g)
+
+-- Two cases may tell the same bits, a float's and a NaN's. A reader gives the one that is theirs: "NaN patterns by their bits" are the NaN case and only that;
+-- a float is the one that its bits stand for; a GUID's two numbers have eight bytes each.
+abbrev pub IsFloat : Format → Float → Type 0
+IsFloat f x = (nanBits f (toBits f x) ≡ false) × (ofBits f (toBits f x) ≡ x)
+
+abbrev pub Canonical : Scalar → Type 0
+Canonical (C.Bit b) = Unit {0}
+Canonical (C.U8 n) = Unit {0}
+Canonical (C.I16 z) = Unit {0}
+Canonical (C.I32 z) = Unit {0}
+Canonical (C.I64 z) = Unit {0}
+Canonical (C.F32 x) = IsFloat binary32 x
+Canonical (C.F32Nan n) = nanBits binary32 n ≡ true
+Canonical (C.F64 x) = IsFloat binary64 x
+Canonical (C.F64Nan n) = nanBits binary64 n ≡ true
+Canonical (C.Guid g) = (g .high < 256 ^ 8) × (g .low < 256 ^ 8)
 
 -- the number whose low bytes are the value's
 abbrev pub numberOf : S.Scalar → ℕ

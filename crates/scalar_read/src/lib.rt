@@ -1,0 +1,2 @@
+// The one place that makes a value of a fixed width out of bytes.
+pub mod inner;

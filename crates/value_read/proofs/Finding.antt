@@ -1,0 +1,194 @@
+-- What was read, by where its content stands, and what the room holds afterwards, case by case.
+-- A null and a scalar copy nothing, and neither does content that is not PLP: they need no room, and the room stays. PLP content is what the join counts and
+-- leaves in the room behind what was copied before.
+-- Assumes nothing.
+use mathlib.Core.Path.{_≡_, refl, ap, sym, _∙_, subst}
+use mathlib.Core.Bool.{Bool, true, false}
+use mathlib.Core.List.{List, [], _++_, append-nil}
+use mathlib.Core.Option.{Option, none, some}
+use Prim.Native.Nat.{ℕ, _+_, _-_, _<_, _≤_}
+use native.Mathlib.Nat.{sub-zero}
+use native.Mathlib.Omega.{arith}
+use lib.Dec.{ltb}
+use lib.ListN.{length, take, drop, length-drop, drop-of-length-le, take-append-drop}
+use lib.Seq.{length-take-le}
+use borrow.Rule.Slice.PartMut.{putMid, postOf}
+use borrow.Author.Tests.{le-ltb}
+use Rattle.lists.specs.Pick.{pick}
+use Rattle.format.specs.Answer.{Refusal, missing, room, rule, Read, took, stops, further, mapRead, readAt, fittedRead, roomAfterRead}
+use Rattle.format.specs.Descriptor as D
+use Rattle.format.specs.Descriptor.{keepsRule}
+use Rattle.format.specs.Scalar.{Scalar}
+use Rattle.format.specs.Plp.{readPlp, plpCopied}
+use Rattle.format.specs.Value.{Value, ContentKind, Family, familyOf, isText, contentValue, readFamily, readValue, contentOf, isPlp, copiedOut}
+use Rattle.format.specs.Found as F
+use Rattle.format.proofs.Place.{at-behind, at-inside, at-stops}
+use Rattle.plp_join.specs.declared.Joined.{Joined}
+use Rattle.plp_join.specs.Told.{counted, joinedTold, joinIn}
+use Rattle.value_read.specs.Told.{contentFound, behind, roomBehind, readOut, roomOut}
+
+-- a part of the room from a place on, lent and back
+pub lent-rest : (out ys : List ℕ) (o : ℕ) → putMid o (length out - o) out ys ≡ take o out ++ ys
+lent-rest out ys o =
+    let z : postOf o (length out - o) out ≡ [] = drop-of-length-le (drop o out) {i = length out - o} (simp length-drop (omega arith)) in
+    simp (z, append-nil)
+
+-- found content, by its count in the room
+abbrev pub foundCounted : ContentKind → ℕ → Option ℕ → F.Found
+foundCounted k copied none = F.Found.null
+foundCounted k copied (some n) = contentFound k (F.inRoom copied n)
+
+-- what a join tells of content of a kind
+abbrev pub joinTold : ContentKind → ℕ → Joined → Read F.Found
+joinTold k copied j = mapRead (foundCounted k copied) (joinedTold j)
+
+pub same-found : (n : ℕ) {x y : F.Found} → x ≡ y → took x n ≡ took y n
+same-found n e = ap (λ (f : F.Found). took f n) e
+
+-- what an equation is said of
+abbrev pub said : {A : Type 0} {x y : A} → x ≡ y → A
+said {A} {x} {y} e = x
+
+module _ (c : D.Column) (at copied : ℕ) (out : List ℕ) where
+  abbrev left : ℕ
+  left = length out - copied
+
+  -- what a call tells of what was read, and what it leaves in the room
+  pub record Answers (told : Read F.Found) (after : List ℕ) (r : Read Value) : Type 0 where
+    pub answered : told ≡ mapRead (F.foundOf c at copied) (behind c r at left)
+    pub stays : after ≡ roomBehind c r at copied out
+
+  kept : (v : Value) (n : ℕ) → copiedOut c v ≡ [] → Answers (took (F.foundOf c at copied v) (at + n)) out (took v n)
+  unfolding fittedRead roomAfterRead
+  kept v n e =
+      let t : ltb left 0 ≡ false = le-ltb left 0 (omega arith) in
+      record { answered = rw (e, t); stays = rw (e, t, e) (sym (take-append-drop copied out)) }
+
+  no-content : (v : Value) → contentOf v ≡ [] → copiedOut c v ≡ []
+  unfolding copiedOut
+  no-content v e = go (isPlp c)
+    where
+      go : (b : Bool) → pick b (contentOf v) [] ≡ []
+      go true = e
+      go false = refl
+
+  pub null-found : (r : Read Value) (n : ℕ) → took Value.null n ≡ r → Answers (took F.Found.null (at + n)) out r
+  null-found r n e = subst (Answers (took F.Found.null (at + n)) out) e (kept Value.null n (no-content Value.null refl))
+
+  pub scalar-found : (r : Read Value) (v : Scalar) (n : ℕ) → took (Value.scalar v) n ≡ r → Answers (took (F.Found.scalar v) (at + n)) out r
+  scalar-found r v n e = subst (Answers (took (F.Found.scalar v) (at + n)) out) e (kept (Value.scalar v) n (no-content (Value.scalar v) refl))
+
+  pub stops-found : (r : Read Value) (d : Refusal) → stops d ≡ r → Answers (stops d) out r
+  unfolding fittedRead roomAfterRead
+  stops-found r d e = subst (Answers (stops d) out) e (record { answered = refl; stays = sym (take-append-drop copied out) })
+
+  stands-input : isPlp c ≡ false → (k : ContentKind) (s : List ℕ) →
+      F.foundOf c at copied (contentValue k (some s)) ≡ contentFound k (F.inInput (at + 2) (length s))
+  stands-input t ContentKind.binary s = rw t
+  stands-input t ContentKind.string s = rw t
+
+  -- content behind the two length bytes
+  pub part-found : isPlp c ≡ false → (r : Read Value) (k : ContentKind) (rest : List ℕ) (start count : ℕ) → start ≡ 2 → start + count ≤ length rest
+      → took (contentValue k (some (take count (drop start rest)))) (start + count) ≡ r → Answers (took (contentFound k (F.inInput (at + start) count)) (at + (start + count))) out r
+  unfolding copiedOut
+  part-found t r k rest start count two inside e =
+      let s = take count (drop start rest) in
+      let l : length s ≡ count = length-take-le count (drop start rest) (omega (arith, length-drop start rest)) in
+      let f : F.foundOf c at copied (contentValue k (some s)) ≡ contentFound k (F.inInput (at + start) count) =
+      stands-input t k s ∙ ap (λ (p : F.Stand). contentFound k p) (rw (l, two)) in
+      subst (Answers (took (contentFound k (F.inInput (at + start) count)) (at + (start + count))) out) e
+      (subst (λ (x : F.Found). Answers (took x (at + (start + count))) out (took (contentValue k (some s)) (start + count))) f (kept (contentValue k (some s)) (start + count) (rw t)))
+
+  -- PLP content: what the join of it says
+  module _ (t : isPlp c ≡ true) (k : ContentKind) where
+    abbrev joins : Read (Option (List ℕ)) → Read (Option (List ℕ))
+    joins r = fittedRead plpCopied (further at r) left
+
+    stands-room : (o : Option (List ℕ)) → F.foundOf c at copied (contentValue k o) ≡ foundCounted k copied (counted o)
+    stands-room none = refl
+    stands-room (some s) = go k
+      where
+        go : (j : ContentKind) → F.foundOf c at copied (contentValue j (some s)) ≡ contentFound j (F.inRoom copied (length s))
+        go ContentKind.binary = rw t
+        go ContentKind.string = rw t
+
+    copies : (o : Option (List ℕ)) → copiedOut c (contentValue k o) ≡ plpCopied o
+    unfolding copiedOut
+    copies none = rw t
+    copies (some s) = go k
+      where
+        go : (j : ContentKind) → copiedOut c (contentValue j (some s)) ≡ s
+        go ContentKind.binary = rw t
+        go ContentKind.string = rw t
+
+    read-joins : (r : Read (Option (List ℕ))) → behind c (mapRead (contentValue k) r) at left ≡ mapRead (contentValue k) (joins r)
+    unfolding fittedRead
+    read-joins (took o n) = rw (copies o) (go (ltb left (length (plpCopied o))))
+      where
+        go : (b : Bool) → pick b (stops room) (took (contentValue k o) (at + n)) ≡ mapRead (contentValue k) (pick b (stops room) (took o (at + n)))
+        go true = refl
+        go false = refl
+    read-joins (stops e) = refl
+
+    told-joins : (r : Read (Option (List ℕ))) →
+        mapRead (foundCounted k copied) (mapRead counted r) ≡ mapRead (F.foundOf c at copied) (mapRead (contentValue k) r)
+    told-joins (took o n) = ap (λ (f : F.Found). took f n) (sym (stands-room o))
+    told-joins (stops e) = refl
+
+    room-joins : (r : Read (Option (List ℕ))) (l : List ℕ) → roomAfterRead plpCopied r l ≡ roomAfterRead (copiedOut c) (mapRead (contentValue k) r) l
+    unfolding roomAfterRead
+    room-joins (took o n) l = rw (copies o)
+    room-joins (stops e) l = refl
+
+    joins-found : (r : Read (Option (List ℕ))) (told : Read (Option ℕ)) (ys : List ℕ) → told ≡ mapRead counted (joins r)
+        → ys ≡ roomAfterRead plpCopied (joins r) (drop copied out)
+        → Answers (mapRead (foundCounted k copied) told) (take copied out ++ ys) (mapRead (contentValue k) r)
+    joins-found r told ys e f =
+        let j = read-joins r in
+        record {
+          answered = ap (mapRead (foundCounted k copied)) e ∙ (told-joins (joins r) ∙ ap (mapRead (F.foundOf c at copied)) (sym j));
+          stays =
+              ap (λ (l : List ℕ). take copied out ++ l)
+              (f ∙ (room-joins (joins r) (drop copied out) ∙ ap (λ (x : Read Value). roomAfterRead (copiedOut c) x (drop copied out)) (sym j)));
+        }
+
+    -- a join that was lent the room behind what was copied before
+    pub joins-lent : (text : Bool) (rest part ys : List ℕ) (told : Read (Option ℕ)) → text ≡ isText k → part ≡ drop copied out
+        → told ≡ mapRead counted (joinIn text rest at (length part)) → ys ≡ roomAfterRead plpCopied (joinIn text rest at (length part)) part
+        → Answers (mapRead (foundCounted k copied) told) (take copied out ++ ys) (mapRead (contentValue k) (readPlp (isText k) rest))
+    joins-lent text rest part ys told q p e f =
+        let l : length part ≡ left = ap length p ∙ length-drop copied out in
+        joins-found (readPlp (isText k) rest) told ys (rw (l, q) at e) (rw (l, q, p) at f)
+
+-- ---- at a place of the input
+
+module _ (c : D.Column) (s : List ℕ) (at : ℕ) (out : List ℕ) where
+  -- what a call tells of the value at the place, and what it leaves in the room
+  pub record Leaves (told : Read F.Found) (after : List ℕ) : Type 0 where
+    pub answered : told ≡ mapRead (F.foundOf c at 0) (readOut c s at (length out))
+    pub stays : after ≡ roomOut c s at out
+
+  refused : (e : Refusal) → readAt (readValue c) s at ≡ stops e → Leaves (stops e) out
+  unfolding fittedRead roomAfterRead
+  refused e h = record { answered = rw h; stays = rw h }
+
+  pub place-behind : length s < at → Leaves (stops missing) out
+  place-behind h = refused missing (at-behind (readValue c) s at h)
+
+  module _ (h : at ≤ length s) where
+    pub rule-broken : keepsRule c ≡ false → Leaves (stops rule) out
+    unfolding readValue
+    rule-broken k = refused rule (at-stops (readValue c) s at rule h (rw k))
+
+    -- what was read of the rest, under the column's family and declared length
+    pub place-inside : keepsRule c ≡ true → (declared : ℕ) (f : Option Family) (rest : List ℕ) (told : Read F.Found) (after : List ℕ)
+        → c .length ≡ declared → f ≡ familyOf (c .type) → rest ≡ drop at s
+        → told ≡ mapRead (F.foundOf c at 0) (behind c (readFamily declared f rest) at (length out - 0))
+        → after ≡ roomBehind c (readFamily declared f rest) at 0 out → Leaves told after
+    unfolding readValue
+    place-inside k declared f rest told after l g r a b =
+        let e : further at (readFamily declared f rest) ≡ readAt (readValue c) s at = sym (at-inside (readValue c) s at h ∙ rw (k, l, ← g, ← r)) in
+        record {
+          answered = rw (e, sub-zero (length out)) at a;
+          stays = rw (e, sub-zero (length out)) at b;
+        }

@@ -1,0 +1,55 @@
+// One column value, read: its kind, where its content stands, and the next place.
+pub mod inner;
+
+ghost use mathlib.Core.Path.{_≡_};
+ghost use mathlib.Core.List.{List};
+ghost use Prim.Native.Nat.{ℕ};
+ghost use lib.ListN.{length};
+ghost use Rattle.format.specs.Answer.{mapRead};
+ghost use Rattle.format.specs.Found.{foundOf};
+ghost use Rattle.column_type.specs.Told.{columnTold};
+ghost use Rattle.value_read.specs.Told.{valueReadTold, CanonicalRead, readOut, roomOut};
+use column_type::Column;
+use value_kind::Scalar;
+use value_kind::Span;
+use value_kind::family;
+use wire::Cursor;
+use wire::Refusal;
+
+// Where content stands: a part of the input, its start counted in the whole input; or of the room.
+pub enum Stand {
+    Input(Span),
+    Room(Span),
+}
+
+// A value that was read. A string is its UTF-16LE bytes. It is no value to be written, whose string
+// is UTF-8 in a buffer of its own.
+pub enum Found {
+    Null,
+    Scalar(Scalar),
+    Binary(Stand),
+    String(Stand),
+}
+
+// The value at a place and the next place, or why there is none.
+pub enum ValueRead {
+    Value(Found, Cursor),
+    Refused(Refusal),
+}
+
+// The value of the column at the cursor; PLP content is joined at the front of the room.
+pub fn read_value(c: Column, s: &[u8], cursor: Cursor, out: &mut [u8]) -> ValueRead
+    ensures told { λ r. ⌜ ((b : List ℕ) → valueReadTold r ≡ mapRead (foundOf (columnTold b c) (cursor .at) 0) (readOut (columnTold b c) (now (s .entry)) (cursor .at) (length (now (out .entry))))) ⌝ }
+    ensures canonical { λ r. ⌜ CanonicalRead r ⌝ }
+    ensures room { λ _. ⌜ ((b : List ℕ) → now (out .exit) ≡ roomOut (columnTold b c) (now (s .entry)) (cursor .at) (now (out .entry))) ⌝ }
+{
+    let at = cursor.at;
+    if s.len() < at {
+        return ValueRead::Refused(Refusal::Missing);
+    }
+    if column_rule::keeps_rule(c) {
+        let ty = c.ty;
+        return inner::read_in(family::family_of(ty), c.length as u32, &s[at..], at, 0, out);
+    }
+    ValueRead::Refused(Refusal::Rule)
+}
