@@ -2,13 +2,20 @@
 // signature, under one name. docs/PUBLIC.md has each call's contract; the code stands in the crates
 // named here.
 
-// What every call answers with, and a place in the input whose methods read a byte, a number or a
-// GUID.
-pub use wire::ByteRead;
-pub use wire::Cursor;
+// The cursor: a place in the input, whose methods read a byte, a number, a GUID, a packet header, a
+// column's descriptor, its value or a PLP walk, and hand back the next cursor.
+pub use cursor::ByteRead;
+pub use cursor::ColumnRead;
+pub use cursor::Cursor;
+pub use cursor::GuidRead;
+pub use cursor::HeaderRead;
+pub use cursor::Joined;
+pub use cursor::NumberRead;
+pub use cursor::ValueRead;
+pub use cursor::WalkOpened;
+
+// What every call answers with.
 pub use wire::Guid;
-pub use wire::GuidRead;
-pub use wire::NumberRead;
 pub use wire::Refusal;
 pub use wire::Width;
 pub use wire::Wrote;
@@ -16,10 +23,8 @@ pub use wire::write_guid;
 
 // The packet header.
 pub use header::Header;
-pub use header::HeaderRead;
 pub use header::PacketStatus;
 pub use header::PacketType;
-pub use header::read_header;
 pub use header::write_header;
 
 // The prelogin message.
@@ -34,12 +39,10 @@ pub use text::utf8_size;
 pub use text::utf16_size;
 
 // TYPE_INFO, a column's descriptor.
-pub use column_read::read_column;
 pub use column_size::column_size;
 pub use column_type::ByteLen;
 pub use column_type::Collation;
 pub use column_type::Column;
-pub use column_type::ColumnRead;
 pub use column_type::FixedLen;
 pub use column_type::LongLen;
 pub use column_type::Name;
@@ -57,15 +60,15 @@ pub use value_kind::Value;
 pub use value_write::value_size;
 pub use value_write::write_value;
 
+// A value that was read, and where its content stands.
+pub use value_read::Found;
+pub use value_read::Stand;
+
 // PLP values: the chunk walk, and the walk object that keeps the lent input.
 pub use plp::Total;
 pub use plp::Walk;
-pub use plp::WalkOpened;
 pub use plp::Walked;
-pub use plp::open_walk;
 pub use plp::walk_chunks;
-pub use plp_join::Joined;
-pub use plp_join::join_plp;
 pub use plp_walk::Said;
 pub use plp_walk::Standing;
 pub use plp_walk::WalkObject;

@@ -15,6 +15,7 @@ fn in_room(op: u8, frame: &[u8], room: &mut [u8]) {
         0x21 => packet::header_write(frame, room),
         0x22 => packet::prelogin_write(frame, room),
         0x29 => replay_type::type_write(frame, room),
+        0x30 => replay_found::value_read(frame, room),
         0x31 => replay_value::value_write(frame, room),
         0x32 => replay_value::untyped_write(frame, room),
         0x48 => texts::text_in(frame, room),
@@ -39,13 +40,21 @@ fn without_room(op: u8, frame: &[u8]) -> bool {
     true
 }
 
+// Where a frame says how large its room is: behind the place, in the ops that read at one.
+fn room_size_at(op: u8) -> usize {
+    if op == 0x30 {
+        return 9;
+    }
+    1
+}
+
 // One frame's answer, by its op's number.
 fn answer(frame: &[u8], room: &mut [u8]) {
     let op = fields::byte(frame, 0);
     if without_room(op, frame) {
         return;
     }
-    let size = fields::size(frame, 1, room);
+    let size = fields::size(frame, room_size_at(op), room);
     in_room(op, frame, &mut room[..size]);
 }
 

@@ -34,6 +34,20 @@ pub fn number(n: u64) {
     io::print_decimal(STDOUT_FILENO, n);
 }
 
+// A word that is a whole number, by its bits in two's complement: those from `half` on stand for the
+// negative ones.
+pub fn signed(n: u64, half: u64) {
+    if n < half {
+        number(n);
+        return;
+    }
+    let over = n - half;
+    if over < half {
+        io::write_all(STDOUT_FILENO, b" -");
+        io::print_decimal(STDOUT_FILENO, half - over);
+    }
+}
+
 // Document 01's number of a refusal.
 pub fn refusal(e: Refusal) -> u64
     ensures { λ r. ⌜ r ≡ Answer.number (refusalTold e) ⌝ }
@@ -159,7 +173,7 @@ fn kept(room: &[u8]) {
 }
 
 // W bytes at the front of the room, and how many bytes behind them are changed.
-fn front(room: &[u8], w: usize) {
+pub fn front(room: &[u8], w: usize) {
     number(w as u64);
     if room.len() < w {
         return;
