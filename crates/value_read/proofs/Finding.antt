@@ -89,15 +89,17 @@ module _ (c : D.Column) (at copied : ℕ) (out : List ℕ) where
 
   -- content behind the two length bytes
   pub part-found : isPlp c ≡ false → (r : Read Value) (k : ContentKind) (rest : List ℕ) (start count : ℕ) → start ≡ 2 → start + count ≤ length rest
-      → took (contentValue k (some (take count (drop start rest)))) (start + count) ≡ r → Answers (took (contentFound k (F.inInput (at + start) count)) (at + (start + count))) out r
+      → took (contentValue k (some (take count (drop start rest)))) (start + count) ≡ r
+      → Answers (took (contentFound k (F.inInput (at + start) count)) (at + (start + count))) out r
   unfolding copiedOut
   part-found t r k rest start count two inside e =
       let s = take count (drop start rest) in
       let l : length s ≡ count = length-take-le count (drop start rest) (omega (arith, length-drop start rest)) in
       let f : F.foundOf c at copied (contentValue k (some s)) ≡ contentFound k (F.inInput (at + start) count) =
       stands-input t k s ∙ ap (λ (p : F.Stand). contentFound k p) (rw (l, two)) in
+      let a = kept (contentValue k (some s)) (start + count) (rw t) in
       subst (Answers (took (contentFound k (F.inInput (at + start) count)) (at + (start + count))) out) e
-      (subst (λ (x : F.Found). Answers (took x (at + (start + count))) out (took (contentValue k (some s)) (start + count))) f (kept (contentValue k (some s)) (start + count) (rw t)))
+      (subst (λ (x : F.Found). Answers (took x (at + (start + count))) out (took (contentValue k (some s)) (start + count))) f a)
 
   -- PLP content: what the join of it says
   module _ (t : isPlp c ≡ true) (k : ContentKind) where

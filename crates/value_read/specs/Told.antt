@@ -1,11 +1,11 @@
 -- What this crate's declared types tell, in the words of `format`: a value by where its content stands.
 use Prim.Native.Nat.{ℕ, _-_}
 use mathlib.Core.List.{List, _++_}
-use mathlib.Core.Option.{Option, none, some}
 use lib.ListN.{length, take, drop}
-use Rattle.format.specs.Answer.{Read, took, stops, further, readAt, fittedRead, roomAfterRead}
+use Rattle.format.specs.Answer.{Read, took, stops, further, mapRead, readAt, fittedRead, roomAfterRead}
 use Rattle.format.specs.Descriptor as D
-use Rattle.format.specs.Value.{Value, ContentKind, readValue, copiedOut}
+use Rattle.format.specs.Plp.{readPlp}
+use Rattle.format.specs.Value.{Value, ContentKind, isText, contentValue, readValue, copiedOut}
 use Rattle.format.specs.Found as F
 use Rattle.wire.specs.Told.{refusalTold}
 use Rattle.value_kind.specs.Told.{scalarTold, Canonical}
@@ -47,6 +47,9 @@ CanonicalRead (R.Refused e) = Unit {0}
 abbrev pub readOut : D.Column → List ℕ → ℕ → ℕ → Read Value
 readOut c s at size = fittedRead (copiedOut c) (readAt (readValue c) s at) size
 
+abbrev pub foundOut : D.Column → List ℕ → ℕ → List ℕ → Read F.Found
+foundOut c s at out = mapRead (F.foundOf c at 0) (readOut c s at (length out))
+
 abbrev pub roomOut : D.Column → List ℕ → ℕ → List ℕ → List ℕ
 roomOut c s at out = roomAfterRead (copiedOut c) (readOut c s at (length out)) out
 
@@ -56,8 +59,15 @@ abbrev pub contentFound : ContentKind → F.Stand → F.Found
 contentFound ContentKind.binary p = F.Found.binary p
 contentFound ContentKind.string p = F.Found.string p
 
+-- a PLP value of a kind
+abbrev pub plpValue : ContentKind → List ℕ → Read Value
+plpValue k rest = mapRead (contentValue k) (readPlp (isText k) rest)
+
 abbrev pub behind : D.Column → Read Value → ℕ → ℕ → Read Value
 behind c r at size = fittedRead (copiedOut c) (further at r) size
+
+abbrev pub foundBehind : D.Column → Read Value → ℕ → ℕ → List ℕ → Read F.Found
+foundBehind c r at copied out = mapRead (F.foundOf c at copied) (behind c r at (length out - copied))
 
 abbrev pub roomBehind : D.Column → Read Value → ℕ → ℕ → List ℕ → List ℕ
 roomBehind c r at copied out = take copied out ++ roomAfterRead (copiedOut c) (behind c r at (length out - copied)) (drop copied out)

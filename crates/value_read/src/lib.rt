@@ -4,11 +4,8 @@ pub mod inner;
 ghost use mathlib.Core.Path.{_≡_};
 ghost use mathlib.Core.List.{List};
 ghost use Prim.Native.Nat.{ℕ};
-ghost use lib.ListN.{length};
-ghost use Rattle.format.specs.Answer.{mapRead};
-ghost use Rattle.format.specs.Found.{foundOf};
 ghost use Rattle.column_type.specs.Told.{columnTold};
-ghost use Rattle.value_read.specs.Told.{valueReadTold, CanonicalRead, readOut, roomOut};
+ghost use Rattle.value_read.specs.Told.{valueReadTold, CanonicalRead, foundOut, roomOut};
 use column_type::Column;
 use value_kind::Scalar;
 use value_kind::Span;
@@ -39,7 +36,7 @@ pub enum ValueRead {
 
 // The value of the column at the cursor; PLP content is joined at the front of the room.
 pub fn read_value(c: Column, s: &[u8], cursor: Cursor, out: &mut [u8]) -> ValueRead
-    ensures told { λ r. ⌜ ((b : List ℕ) → valueReadTold r ≡ mapRead (foundOf (columnTold b c) (cursor .at) 0) (readOut (columnTold b c) (now (s .entry)) (cursor .at) (length (now (out .entry))))) ⌝ }
+    ensures told { λ r. ⌜ ((b : List ℕ) → valueReadTold r ≡ foundOut (columnTold b c) (now (s .entry)) (cursor .at) (now (out .entry))) ⌝ }
     ensures canonical { λ r. ⌜ CanonicalRead r ⌝ }
     ensures room { λ _. ⌜ ((b : List ℕ) → now (out .exit) ≡ roomOut (columnTold b c) (now (s .entry)) (cursor .at) (now (out .entry))) ⌝ }
 {

@@ -1,4 +1,5 @@
--- `value_read::inner::join_value` meets its contract: what the join says of the chunks, told of the value, and the room behind what was copied before. Assumes nothing.
+-- `value_read::inner::join_value` meets its contract: what the join says of the chunks, told of the value, and the room behind what was copied
+-- before. Assumes nothing.
 use mathlib.Core.Path.{_≡_, sym, ap, _∙_}
 use mathlib.Core.Bool.{true}
 use mathlib.Core.List.{_++_}

@@ -74,7 +74,8 @@ enum-known-seen-3 c = search needs
 add-next-3 : tie.Need-add-next-3
 add-next-3 c =
     let look = c .before .before .before in
-    omega (arith, start look .pre .0, lies look _ (c .before .seen3 .given .1) .1)
+    let h = lies look _ (c .before .seen3 .given .1) in
+    omega (arith, start look .pre .0, h .0, h .1)
 
 content-found-requires : tie.Need-content-found-requires
 content-found-requires c κs = search needs
@@ -83,13 +84,15 @@ add-next-4 : tie.Need-add-next-4
 add-next-4 c =
     let seen = c .before in
     let look = seen .before .before .before in
-    omega (arith, start look .pre .0, lies look _ (seen .before .seen3 .given .1) .1)
+    let h = lies look _ (seen .before .seen3 .given .1) in
+    omega (arith, start look .pre .0, h .0, h .1)
 
 add-next-5 : tie.Need-add-next-5
 add-next-5 c =
     let seen = c .before in
     let look = seen .before .before .before in
-    omega (arith, start look .pre .0, lies look _ (seen .before .seen3 .given .1) .1)
+    let h = lies look _ (seen .before .seen3 .given .1) in
+    omega (arith, start look .pre .0, h .0, h .1)
 
 enum-known-seen-4 : tie.Need-enum-known-seen-4
 enum-known-seen-4 c = search needs
