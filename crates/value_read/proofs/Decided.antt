@@ -14,13 +14,14 @@ use Rattle.column_type.specs.declared.Column.{Column}
 use Rattle.column_type.specs.Told.{columnTold}
 use Rattle.value_kind.specs.Told.{scalarTold}
 use Rattle.value_kind.proofs.Canonical.{canonical-one}
-use Rattle.value_read.specs.declared.Stand.{Stand}
-use Rattle.value_read.specs.declared.Stand.the-variants as St
-use Rattle.value_read.specs.declared.Found.{Found}
-use Rattle.value_read.specs.declared.Found.the-variants as Fo
-use Rattle.value_read.specs.declared.ValueRead.{ValueRead}
-use Rattle.value_read.specs.declared.ValueRead.the-variants as R
-use Rattle.value_read.specs.Told.{standTold, foundTold, valueReadTold, CanonicalFound, CanonicalRead, foundOut, roomOut}
+use Rattle.value_found.specs.declared.Stand.{Stand}
+use Rattle.value_found.specs.declared.Stand.the-variants as St
+use Rattle.value_found.specs.declared.Found.{Found}
+use Rattle.value_found.specs.declared.Found.the-variants as Fo
+use Rattle.value_found.specs.declared.ValueRead.{ValueRead}
+use Rattle.value_found.specs.declared.ValueRead.the-variants as R
+use Rattle.value_found.specs.Told.{standTold, foundTold, valueReadTold, CanonicalFound, CanonicalRead}
+use Rattle.value_read.specs.Told.{foundOut, roomOut}
 
 abbrev standBack : F.Stand → Stand
 standBack (F.inInput start count) = St.Input (record { start = start; count = count })

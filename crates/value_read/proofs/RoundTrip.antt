@@ -34,10 +34,11 @@ use Rattle.value_kind.specs.declared.Scalar.{Scalar}
 use Rattle.value_kind.specs.declared.Value.{Value}
 use Rattle.value_kind.specs.declared.Value.the-variants as Gi
 use Rattle.value_kind.specs.Told.{valueTold, scalarTold, Canonical}
-use Rattle.value_read.specs.declared.Found.the-variants as Fo
-use Rattle.value_read.specs.declared.ValueRead.{ValueRead}
-use Rattle.value_read.specs.declared.ValueRead.the-variants as R
-use Rattle.value_read.specs.Told.{valueReadTold, readOut}
+use Rattle.value_found.specs.declared.Found.the-variants as Fo
+use Rattle.value_found.specs.declared.ValueRead.{ValueRead}
+use Rattle.value_found.specs.declared.ValueRead.the-variants as R
+use Rattle.value_found.specs.Told.{valueReadTold}
+use Rattle.value_read.specs.Told.{readOut}
 use Rattle.value_read.proofs.Decided.{ReadsValue, read-one, read-value-decided}
 
 -- ---- the bytes that a writer wrote stand at the front of its room

@@ -1,4 +1,4 @@
--- `value_read::inner::read_in` meets its contract: what was seen of the rest, told of a value. Assumes nothing.
+-- `value_found::inner::read_in` meets its contract: what was seen of the rest, told of a value. Assumes nothing.
 use mathlib.Core.Path.{_≡_, sym, ap, _∙_}
 use mathlib.Core.Bool.{Bool}
 use Prim.Native.Nat.{ℕ, _+_, _-_, _≤_}
@@ -13,11 +13,11 @@ use Rattle.format.specs.Found.{foundOf}
 use Rattle.value_kind.specs.Told.{contentKindTold, familyTold, scalarTold}
 use Rattle.value_look.specs.declared.Seen.{Seen}
 use Rattle.value_look.specs.Told.{seenTold, Lies}
-use Rattle.value_read.specs.Told.{behind, roomBehind}
-use Rattle.value_read.proofs.Finding.{same-found, null-found, scalar-found, stops-found, part-found}
+use Rattle.value_found.specs.Told.{behind, roomBehind}
+use Rattle.value_found.proofs.Finding.{same-found, null-found, scalar-found, stops-found, part-found}
 use borrow.Author.Needs.{needs}
-use Rattle.value_read.proofs.inner.read_in.Statement.{statement}
-use Rattle.value_read.proofs.inner.read_in.Tie as tie
+use Rattle.value_found.proofs.inner.read_in.Statement.{statement}
+use Rattle.value_found.proofs.inner.read_in.Tie as tie
 
 -- where the rest was looked at
 abbrev start : tie.After-look → tie.Start
