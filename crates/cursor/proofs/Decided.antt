@@ -36,6 +36,14 @@ use Rattle.plp_join.specs.declared.Joined as WJ
 use Rattle.plp_join.specs.declared.Joined.the-variants as WJ′
 use Rattle.plp_join.specs.Told as JT
 use Rattle.plp_join.proofs.Decided as JD
+use Rattle.column_type.specs.declared.Column.{Column}
+use Rattle.value_found.specs.declared.ValueRead as WV
+use Rattle.value_found.specs.declared.ValueRead.the-variants as WV′
+use Rattle.value_found.specs.Told as VT
+use Rattle.value_read.specs.Told.{foundOut, roomOut}
+use Rattle.value_read.proofs.Decided as VD
+use Rattle.cursor.specs.declared.ValueRead.{ValueRead}
+use Rattle.cursor.specs.declared.ValueRead.the-variants as VR
 use Rattle.cursor.specs.declared.ByteRead.{ByteRead}
 use Rattle.cursor.specs.declared.ByteRead.the-variants as B
 use Rattle.cursor.specs.declared.NumberRead.{NumberRead}
@@ -50,7 +58,7 @@ use Rattle.cursor.specs.declared.WalkOpened.{WalkOpened}
 use Rattle.cursor.specs.declared.WalkOpened.the-variants as O
 use Rattle.cursor.specs.declared.Joined.{Joined}
 use Rattle.cursor.specs.declared.Joined.the-variants as J
-use Rattle.cursor.specs.Told.{byteTold, numberTold, guidTold, headerTold, columnReadTold, NamesFrom, openedTold, joinedTold}
+use Rattle.cursor.specs.Told.{byteTold, numberTold, guidTold, headerTold, columnReadTold, NamesFrom, openedTold, joinedTold, valueReadTold, CanonicalRead}
 
 -- an answer of the layer below that is decided decides the cursor's
 lifted : {A B : Type 0} (down : A → B) (up : B → A) → Undoes down up → (x y : A) → down x ≡ down y → x ≡ y
@@ -241,3 +249,44 @@ module _ (text : Bool) (s : List ℕ) (at : ℕ) (out : List ℕ) where
   join-plp-decided x y a b p q =
       let both = JD.join-plp-decided text s at out (joinedDown x) (joinedDown y) a b (beneath x a p) (beneath y b q) in
       (lifted joinedDown joinedUp joined-undoes x y (both .0), both .1)
+
+-- ---- `cursor::Cursor::value`
+
+abbrev valueDown : ValueRead → WV.ValueRead
+valueDown (VR.Value f next) = WV′.Value f (record { at = next .at })
+valueDown (VR.Refused e) = WV′.Refused e
+
+abbrev valueUp : WV.ValueRead → ValueRead
+valueUp (WV′.Value f next) = VR.Value f (record { at = next .at })
+valueUp (WV′.Refused e) = VR.Refused e
+
+value-undoes : Undoes valueDown valueUp
+value-undoes (VR.Value f next) = refl
+value-undoes (VR.Refused e) = refl
+
+value-same : (r : ValueRead) → valueReadTold r ≡ VT.valueReadTold (valueDown r)
+value-same (VR.Value f next) = refl
+value-same (VR.Refused e) = refl
+
+canonical-same : (r : ValueRead) → CanonicalRead r → VT.CanonicalRead (valueDown r)
+canonical-same (VR.Value f next) h = h
+canonical-same (VR.Refused e) h = h
+
+module _ (c : Column) (s : List ℕ) (at : ℕ) (out : List ℕ) where
+  -- the three clauses of the contract
+  pub record ReadsValue (r : ValueRead) (after : List ℕ) : Type 0 where
+    pub told : (b : List ℕ) → valueReadTold r ≡ foundOut (CT.columnTold b c) s at out
+    pub canonical : CanonicalRead r
+    pub room : (b : List ℕ) → after ≡ roomOut (CT.columnTold b c) s at out
+
+  under : (r : ValueRead) (after : List ℕ) → ReadsValue r after → VD.ReadsValue c s at out (valueDown r) after
+  under r after h = record { told = λ b. sym (value-same r) ∙ h .told b; canonical = canonical-same r (h .canonical); room = h .room }
+
+  pub value-decided : (x y : ValueRead) (a b : List ℕ) → ReadsValue x a → ReadsValue y b → (x ≡ y) × (a ≡ b)
+  value-decided x y a b p q =
+      let both = VD.read-value-decided c s at out (valueDown x) (valueDown y) a b (under x a p) (under y b q) in
+      (lifted valueDown valueUp value-undoes x y (both .0), both .1)
+
+-- `cursor::Cursor::short_content` promises its answer itself
+pub part-decided : (x y b : List ℕ) → x ≡ b → y ≡ b → x ≡ y
+part-decided x y b p q = p ∙ sym q

@@ -12,7 +12,7 @@ use Rattle.wire.specs.Told.{refusalTold}
 use Rattle.header.specs.Told.{headerFields}
 use Rattle.column_type.specs.Told.{columnTold, SchemaFrom}
 use Rattle.plp.specs.Told.{walkTold}
-use Rattle.value_read.specs.Told.{foundTold, CanonicalFound}
+use Rattle.value_found.specs.Told.{foundTold, CanonicalFound}
 use Rattle.cursor.specs.declared.ByteRead.{ByteRead}
 use Rattle.cursor.specs.declared.ByteRead.the-variants as B
 use Rattle.cursor.specs.declared.NumberRead.{NumberRead}

@@ -10,16 +10,15 @@ ghost use Rattle.format.specs.Number.{readByte, readLow, readHigh};
 ghost use Rattle.format.specs.Header.{readHeader};
 ghost use Rattle.format.specs.Descriptor.{readColumn};
 ghost use Rattle.format.specs.Plp.{openWalk, joinPlp, roomAfterJoin};
-ghost use Rattle.format.specs.Found.{foundOf};
 ghost use Rattle.plp_join.specs.Told.{counted};
 ghost use Rattle.wire.specs.Told.{widthOf, readGuid};
 ghost use Rattle.column_type.specs.Told.{columnTold};
-ghost use Rattle.value_read.specs.Told.{readOut, roomOut};
+ghost use Rattle.value_read.specs.Told.{foundOut, roomOut, shortContent};
 ghost use Rattle.cursor.specs.Told.{byteTold, numberTold, NumberBelow, guidTold, headerTold, columnReadTold, NamesFrom, valueReadTold, CanonicalRead, openedTold, joinedTold};
 use column_type::Column;
 use header::Header;
 use plp::Walk;
-use value_read::Found;
+use value_found::Found;
 use wire::Guid;
 use wire::Refusal;
 use wire::Width;
@@ -145,15 +144,23 @@ impl Cursor {
 
     // The value of the column at the cursor; PLP content is joined at the front of the room.
     pub fn value(self, c: Column, s: &[u8], out: &mut [u8]) -> ValueRead
-        ensures told { λ r. ⌜ ((b : List ℕ) → valueReadTold r ≡ mapRead (foundOf (columnTold b c) (self .at) 0) (readOut (columnTold b c) (now (s .entry)) (self .at) (length (now (out .entry))))) ⌝ }
+        ensures told { λ r. ⌜ ((b : List ℕ) → valueReadTold r ≡ foundOut (columnTold b c) (now (s .entry)) (self .at) (now (out .entry))) ⌝ }
         ensures canonical { λ r. ⌜ CanonicalRead r ⌝ }
         ensures room { λ _. ⌜ ((b : List ℕ) → now (out .exit) ≡ roomOut (columnTold b c) (now (s .entry)) (self .at) (now (out .entry))) ⌝ }
     {
         let from = wire::Cursor { at: self.at };
         match value_read::read_value(c, s, from, out) {
-            value_read::ValueRead::Value(f, next) => ValueRead::Value(f, Cursor { at: next.at }),
-            value_read::ValueRead::Refused(e) => ValueRead::Refused(e),
+            value_found::ValueRead::Value(f, next) => ValueRead::Value(f, Cursor { at: next.at }),
+            value_found::ValueRead::Refused(e) => ValueRead::Refused(e),
         }
+    }
+
+    // The content of the short value at the cursor, as a part of the input; the empty part where there
+    // is no such value.
+    pub fn short_content(self, c: Column, s: &[u8]) -> &[u8]
+        ensures { λ r. ⌜ ((b : List ℕ) → now r ≡ shortContent (columnTold b c) (now (s .entry)) (self .at)) ⌝ }
+    {
+        value_read::short_content(c, s, wire::Cursor { at: self.at })
     }
 
     // The eight bytes of a PLP value at the cursor, and the walk behind them.

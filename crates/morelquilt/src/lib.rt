@@ -61,8 +61,8 @@ pub use value_write::value_size;
 pub use value_write::write_value;
 
 // A value that was read, and where its content stands.
-pub use value_read::Found;
-pub use value_read::Stand;
+pub use value_found::Found;
+pub use value_found::Stand;
 
 // PLP values: the chunk walk, and the walk object that keeps the lent input.
 pub use plp::Total;

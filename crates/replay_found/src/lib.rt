@@ -7,10 +7,10 @@ use cursor::Cursor;
 use cursor::ValueRead;
 use replay_say::fields;
 use replay_say::say;
+use value_found::Found;
+use value_found::Stand;
 use value_kind::Scalar;
 use value_kind::Span;
-use value_read::Found;
-use value_read::Stand;
 use wire::Guid;
 use wire::Wrote;
 

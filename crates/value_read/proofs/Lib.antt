@@ -1,1 +1,4 @@
-pub mod Finding
+pub mod Placing
+pub mod Decided
+pub mod RoundTrip
+pub mod Parts

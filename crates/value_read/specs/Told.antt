@@ -1,63 +1,40 @@
--- What this crate's declared types tell, in the words of `format`: a value by where its content stands.
-use Prim.Native.Nat.{ℕ, _-_}
-use mathlib.Core.List.{List, _++_}
-use mathlib.Core.Option.{Option, none, some}
-use lib.ListN.{length, take, drop}
-use Rattle.format.specs.Answer.{Read, took, stops, further, readAt, fittedRead, roomAfterRead}
+-- What the calls of this crate are said to answer, in the words of `format`.
+use Prim.Native.Nat.{ℕ}
+use mathlib.Core.List.{List, []}
+use lib.ListN.{length}
+use Rattle.lists.specs.Pick.{pick}
+use Rattle.format.specs.Answer.{Read, took, stops, mapRead, readAt, fittedRead, roomAfterRead}
 use Rattle.format.specs.Descriptor as D
-use Rattle.format.specs.Value.{Value, ContentKind, readValue, copiedOut}
+use Rattle.format.specs.Value.{Value, readValue, contentOf, isPlp, copiedOut}
 use Rattle.format.specs.Found as F
-use Rattle.wire.specs.Told.{refusalTold}
-use Rattle.value_kind.specs.Told.{scalarTold, Canonical}
-use Rattle.value_read.specs.declared.Stand.{Stand}
-use Rattle.value_read.specs.declared.Stand.the-variants as St
-use Rattle.value_read.specs.declared.Found.{Found}
-use Rattle.value_read.specs.declared.Found.the-variants as Fo
-use Rattle.value_read.specs.declared.ValueRead.{ValueRead}
-use Rattle.value_read.specs.declared.ValueRead.the-variants as R
-
-abbrev pub standTold : Stand → F.Stand
-standTold (St.Input p) = F.inInput (p .start) (p .count)
-standTold (St.Room p) = F.inRoom (p .start) (p .count)
-
-abbrev pub foundTold : Found → F.Found
-foundTold Fo.Null = F.Found.null
-foundTold (Fo.Scalar v) = F.Found.scalar (scalarTold v)
-foundTold (Fo.Binary p) = F.Found.binary (standTold p)
-foundTold (Fo.String p) = F.Found.string (standTold p)
-
--- what was read, and the next place
-abbrev pub valueReadTold : ValueRead → Read F.Found
-valueReadTold (R.Value f c) = took (foundTold f) (c .at)
-valueReadTold (R.Refused e) = stops (refusalTold e)
-
--- a scalar that was read is the canonical one
-abbrev pub CanonicalFound : Found → Type 0
-CanonicalFound Fo.Null = Unit {0}
-CanonicalFound (Fo.Scalar v) = Canonical v
-CanonicalFound (Fo.Binary p) = Unit {0}
-CanonicalFound (Fo.String p) = Unit {0}
-
-abbrev pub CanonicalRead : ValueRead → Type 0
-CanonicalRead (R.Value f c) = CanonicalFound f
-CanonicalRead (R.Refused e) = Unit {0}
+use Rattle.value_kind.specs.declared.Span.{Span}
+use Rattle.value_look.specs.declared.Seen.{Seen}
+use Rattle.value_look.specs.declared.Seen.the-variants as L
 
 -- ---- a value of a column at a place of the input, with a room of so many bytes; and the room afterwards
 
 abbrev pub readOut : D.Column → List ℕ → ℕ → ℕ → Read Value
 readOut c s at size = fittedRead (copiedOut c) (readAt (readValue c) s at) size
 
+abbrev pub foundOut : D.Column → List ℕ → ℕ → List ℕ → Read F.Found
+foundOut c s at out = mapRead (F.foundOf c at 0) (readOut c s at (length out))
+
 abbrev pub roomOut : D.Column → List ℕ → ℕ → List ℕ → List ℕ
 roomOut c s at out = roomAfterRead (copiedOut c) (readOut c s at (length out)) out
 
--- ---- the same of what was read of the rest of the input from a place on, with the room behind what was copied before
+-- ---- short content at a place: "handed back as that part of the caller's own bytes"; none of a value that has none, of PLP content and of a refusal
 
-abbrev pub contentFound : ContentKind → F.Stand → F.Found
-contentFound ContentKind.binary p = F.Found.binary p
-contentFound ContentKind.string p = F.Found.string p
+abbrev pub contentRead : Read Value → List ℕ
+contentRead (took v n) = contentOf v
+contentRead (stops e) = []
 
-abbrev pub behind : D.Column → Read Value → ℕ → ℕ → Read Value
-behind c r at size = fittedRead (copiedOut c) (further at r) size
+unfoldable pub shortContent : D.Column → List ℕ → ℕ → List ℕ
+shortContent c s at = pick (isPlp c) [] (contentRead (readAt (readValue c) s at))
 
-abbrev pub roomBehind : D.Column → Read Value → ℕ → ℕ → List ℕ → List ℕ
-roomBehind c r at copied out = take copied out ++ roomAfterRead (copiedOut c) (behind c r at (length out - copied)) (drop copied out)
+-- the part that was seen, counted from the value's first byte
+abbrev pub partSeen : Seen → Span
+partSeen (L.Null n) = record { start = 0; count = 0 }
+partSeen (L.Scalar k at) = record { start = 0; count = 0 }
+partSeen (L.Part k start count) = record { start = start; count = count }
+partSeen (L.Plp k) = record { start = 0; count = 0 }
+partSeen (L.Refused e) = record { start = 0; count = 0 }

@@ -8,7 +8,7 @@ use Rattle.lists.proofs.Lent.{rest-is}
 use Rattle.format.specs.Descriptor.{keepsRule}
 use Rattle.column_type.specs.Told.{columnTold}
 use Rattle.value_kind.proofs.ColumnLaws.{length-fits}
-use Rattle.value_read.proofs.Finding.{place-behind, rule-broken, place-inside}
+use Rattle.value_read.proofs.Placing.{place-behind, rule-broken, place-inside}
 use borrow.Author.Needs.{needs}
 use Rattle.value_read.proofs.read_value.Statement.{statement}
 use Rattle.value_read.proofs.read_value.Tie as tie

@@ -1,7 +1,7 @@
 -- `cursor::Cursor::value` meets its contract: what the layer below answers and leaves in the room, with its place handed on. Assumes nothing.
 use mathlib.Core.Path.{_≡_, sym, ap, _∙_}
-use Rattle.value_read.specs.Told.{valueReadTold, CanonicalRead}
-use Rattle.value_read.specs.declared.ValueRead.the-variants as R
+use Rattle.value_found.specs.Told.{valueReadTold, CanonicalRead}
+use Rattle.value_found.specs.declared.ValueRead.the-variants as R
 use borrow.Author.Needs.{needs}
 use Rattle.cursor.proofs.Cursor.value.Statement.{statement}
 use Rattle.cursor.proofs.Cursor.value.Tie as tie

@@ -3,15 +3,13 @@
 // before.
 ghost use mathlib.Core.Path.{_≡_};
 ghost use mathlib.Core.Bool.{true};
-ghost use Prim.Native.Nat.{_+_, _-_, _≤_};
+ghost use Prim.Native.Nat.{_+_, _≤_};
 ghost use lib.ListN.{length};
-ghost use Rattle.format.specs.Answer.{mapRead};
 ghost use Rattle.format.specs.Descriptor as D;
-ghost use Rattle.format.specs.Plp.{readPlp};
-ghost use Rattle.format.specs.Value.{isText, contentValue, readFamily, isPlp};
-ghost use Rattle.format.specs.Found.{foundOf};
+ghost use Rattle.format.specs.Value.{isText, readFamily, isPlp};
 ghost use Rattle.value_kind.specs.Told.{contentKindTold, familyTold};
-ghost use Rattle.value_read.specs.Told.{standTold, foundTold, contentFound, CanonicalFound, valueReadTold, CanonicalRead, behind, roomBehind};
+ghost use Rattle.value_found.specs.Told.{standTold, foundTold, contentFound, valueReadTold, CanonicalFound, CanonicalRead};
+ghost use Rattle.value_found.specs.Told.{plpValue, foundBehind, roomBehind};
 use crate::Found;
 use crate::Stand;
 use crate::ValueRead;
@@ -47,9 +45,9 @@ fn is_text(k: ContentKind) -> bool
 // PLP content, its chunks joined in the room behind what was copied before.
 fn join_value(k: ContentKind, rest: &[u8], at: usize, copied: usize, out: &mut [u8]) -> ValueRead
     requires { ⌜ (at + length (now rest) ≤ 18446744073709551615) × (copied ≤ length (now out)) ⌝ }
-    ensures told { λ r. ⌜ ((c : D.Column) → isPlp c ≡ true → valueReadTold r ≡ mapRead (foundOf c at copied) (behind c (mapRead (contentValue (contentKindTold k)) (readPlp (isText (contentKindTold k)) (now (rest .entry)))) at (length (now (out .entry)) - copied))) ⌝ }
+    ensures told { λ r. ⌜ ((c : D.Column) → isPlp c ≡ true → valueReadTold r ≡ foundBehind c (plpValue (contentKindTold k) (now (rest .entry))) at copied (now (out .entry))) ⌝ }
     ensures canonical { λ r. ⌜ CanonicalRead r ⌝ }
-    ensures room { λ _. ⌜ ((c : D.Column) → isPlp c ≡ true → now (out .exit) ≡ roomBehind c (mapRead (contentValue (contentKindTold k)) (readPlp (isText (contentKindTold k)) (now (rest .entry)))) at copied (now (out .entry))) ⌝ }
+    ensures room { λ _. ⌜ ((c : D.Column) → isPlp c ≡ true → now (out .exit) ≡ roomBehind c (plpValue (contentKindTold k) (now (rest .entry))) at copied (now (out .entry))) ⌝ }
 {
     let text = is_text(k);
     let joined = plp_join::inner::join_in(rest, at, text, &mut out[copied..]);
@@ -79,7 +77,7 @@ pub fn read_in(
     out: &mut [u8],
 ) -> ValueRead
     requires { ⌜ (at + length (now rest) ≤ 18446744073709551615) × (copied ≤ length (now out)) ⌝ }
-    ensures told { λ r. ⌜ ((c : D.Column) → c .length ≡ declared → valueReadTold r ≡ mapRead (foundOf c at copied) (behind c (readFamily declared (familyTold f) (now (rest .entry))) at (length (now (out .entry)) - copied))) ⌝ }
+    ensures told { λ r. ⌜ ((c : D.Column) → c .length ≡ declared → valueReadTold r ≡ foundBehind c (readFamily declared (familyTold f) (now (rest .entry))) at copied (now (out .entry))) ⌝ }
     ensures canonical { λ r. ⌜ CanonicalRead r ⌝ }
     ensures room { λ _. ⌜ ((c : D.Column) → c .length ≡ declared → now (out .exit) ≡ roomBehind c (readFamily declared (familyTold f) (now (rest .entry))) at copied (now (out .entry))) ⌝ }
 {

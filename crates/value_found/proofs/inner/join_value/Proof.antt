@@ -1,4 +1,5 @@
--- `value_read::inner::join_value` meets its contract: what the join says of the chunks, told of the value, and the room behind what was copied before. Assumes nothing.
+-- `value_found::inner::join_value` meets its contract: what the join says of the chunks, told of the value, and the room behind what was copied
+-- before. Assumes nothing.
 use mathlib.Core.Path.{_≡_, sym, ap, _∙_}
 use mathlib.Core.Bool.{true}
 use mathlib.Core.List.{_++_}
@@ -9,10 +10,10 @@ use Rattle.format.specs.Descriptor.{Column}
 use Rattle.format.specs.Plp.{readPlp}
 use Rattle.format.specs.Value.{isText, contentValue, isPlp}
 use Rattle.value_kind.specs.Told.{contentKindTold}
-use Rattle.value_read.proofs.Finding.{joinTold, same-found, said, lent-rest, Answers, joins-lent}
+use Rattle.value_found.proofs.Finding.{joinTold, same-found, said, lent-rest, Answers, joins-lent}
 use borrow.Author.Needs.{needs}
-use Rattle.value_read.proofs.inner.join_value.Statement.{statement}
-use Rattle.value_read.proofs.inner.join_value.Tie as tie
+use Rattle.value_found.proofs.inner.join_value.Statement.{statement}
+use Rattle.value_found.proofs.inner.join_value.Tie as tie
 
 -- where the join was called
 abbrev start : tie.After-join-in → tie.Start

@@ -6,8 +6,7 @@ use mathlib.Core.Path.{_≡_, refl, ap, sym, _∙_, subst}
 use mathlib.Core.Bool.{Bool, true, false}
 use mathlib.Core.List.{List, [], _++_, append-nil}
 use mathlib.Core.Option.{Option, none, some}
-use Prim.Native.Nat.{ℕ, _+_, _-_, _<_, _≤_}
-use native.Mathlib.Nat.{sub-zero}
+use Prim.Native.Nat.{ℕ, _+_, _-_, _≤_}
 use native.Mathlib.Omega.{arith}
 use lib.Dec.{ltb}
 use lib.ListN.{length, take, drop, length-drop, drop-of-length-le, take-append-drop}
@@ -15,17 +14,15 @@ use lib.Seq.{length-take-le}
 use borrow.Rule.Slice.PartMut.{putMid, postOf}
 use borrow.Author.Tests.{le-ltb}
 use Rattle.lists.specs.Pick.{pick}
-use Rattle.format.specs.Answer.{Refusal, missing, room, rule, Read, took, stops, further, mapRead, readAt, fittedRead, roomAfterRead}
+use Rattle.format.specs.Answer.{Refusal, room, Read, took, stops, further, mapRead, fittedRead, roomAfterRead}
 use Rattle.format.specs.Descriptor as D
-use Rattle.format.specs.Descriptor.{keepsRule}
 use Rattle.format.specs.Scalar.{Scalar}
 use Rattle.format.specs.Plp.{readPlp, plpCopied}
-use Rattle.format.specs.Value.{Value, ContentKind, Family, familyOf, isText, contentValue, readFamily, readValue, contentOf, isPlp, copiedOut}
+use Rattle.format.specs.Value.{Value, ContentKind, isText, contentValue, contentOf, isPlp, copiedOut}
 use Rattle.format.specs.Found as F
-use Rattle.format.proofs.Place.{at-behind, at-inside, at-stops}
 use Rattle.plp_join.specs.declared.Joined.{Joined}
 use Rattle.plp_join.specs.Told.{counted, joinedTold, joinIn}
-use Rattle.value_read.specs.Told.{contentFound, behind, roomBehind, readOut, roomOut}
+use Rattle.value_found.specs.Told.{contentFound, behind, roomBehind}
 
 -- a part of the room from a place on, lent and back
 pub lent-rest : (out ys : List ℕ) (o : ℕ) → putMid o (length out - o) out ys ≡ take o out ++ ys
@@ -89,15 +86,17 @@ module _ (c : D.Column) (at copied : ℕ) (out : List ℕ) where
 
   -- content behind the two length bytes
   pub part-found : isPlp c ≡ false → (r : Read Value) (k : ContentKind) (rest : List ℕ) (start count : ℕ) → start ≡ 2 → start + count ≤ length rest
-      → took (contentValue k (some (take count (drop start rest)))) (start + count) ≡ r → Answers (took (contentFound k (F.inInput (at + start) count)) (at + (start + count))) out r
+      → took (contentValue k (some (take count (drop start rest)))) (start + count) ≡ r
+      → Answers (took (contentFound k (F.inInput (at + start) count)) (at + (start + count))) out r
   unfolding copiedOut
   part-found t r k rest start count two inside e =
       let s = take count (drop start rest) in
       let l : length s ≡ count = length-take-le count (drop start rest) (omega (arith, length-drop start rest)) in
       let f : F.foundOf c at copied (contentValue k (some s)) ≡ contentFound k (F.inInput (at + start) count) =
       stands-input t k s ∙ ap (λ (p : F.Stand). contentFound k p) (rw (l, two)) in
+      let a = kept (contentValue k (some s)) (start + count) (rw t) in
       subst (Answers (took (contentFound k (F.inInput (at + start) count)) (at + (start + count))) out) e
-      (subst (λ (x : F.Found). Answers (took x (at + (start + count))) out (took (contentValue k (some s)) (start + count))) f (kept (contentValue k (some s)) (start + count) (rw t)))
+      (subst (λ (x : F.Found). Answers (took x (at + (start + count))) out (took (contentValue k (some s)) (start + count))) f a)
 
   -- PLP content: what the join of it says
   module _ (t : isPlp c ≡ true) (k : ContentKind) where
@@ -159,36 +158,3 @@ module _ (c : D.Column) (at copied : ℕ) (out : List ℕ) where
     joins-lent text rest part ys told q p e f =
         let l : length part ≡ left = ap length p ∙ length-drop copied out in
         joins-found (readPlp (isText k) rest) told ys (rw (l, q) at e) (rw (l, q, p) at f)
-
--- ---- at a place of the input
-
-module _ (c : D.Column) (s : List ℕ) (at : ℕ) (out : List ℕ) where
-  -- what a call tells of the value at the place, and what it leaves in the room
-  pub record Leaves (told : Read F.Found) (after : List ℕ) : Type 0 where
-    pub answered : told ≡ mapRead (F.foundOf c at 0) (readOut c s at (length out))
-    pub stays : after ≡ roomOut c s at out
-
-  refused : (e : Refusal) → readAt (readValue c) s at ≡ stops e → Leaves (stops e) out
-  unfolding fittedRead roomAfterRead
-  refused e h = record { answered = rw h; stays = rw h }
-
-  pub place-behind : length s < at → Leaves (stops missing) out
-  place-behind h = refused missing (at-behind (readValue c) s at h)
-
-  module _ (h : at ≤ length s) where
-    pub rule-broken : keepsRule c ≡ false → Leaves (stops rule) out
-    unfolding readValue
-    rule-broken k = refused rule (at-stops (readValue c) s at rule h (rw k))
-
-    -- what was read of the rest, under the column's family and declared length
-    pub place-inside : keepsRule c ≡ true → (declared : ℕ) (f : Option Family) (rest : List ℕ) (told : Read F.Found) (after : List ℕ)
-        → c .length ≡ declared → f ≡ familyOf (c .type) → rest ≡ drop at s
-        → told ≡ mapRead (F.foundOf c at 0) (behind c (readFamily declared f rest) at (length out - 0))
-        → after ≡ roomBehind c (readFamily declared f rest) at 0 out → Leaves told after
-    unfolding readValue
-    place-inside k declared f rest told after l g r a b =
-        let e : further at (readFamily declared f rest) ≡ readAt (readValue c) s at = sym (at-inside (readValue c) s at h ∙ rw (k, l, ← g, ← r)) in
-        record {
-          answered = rw (e, sub-zero (length out)) at a;
-          stays = rw (e, sub-zero (length out)) at b;
-        }

@@ -1,7 +1,7 @@
--- `value_read::inner::content_found` meets its contract: by the kind. Assumes nothing.
+-- `value_found::inner::content_found` meets its contract: by the kind. Assumes nothing.
 use borrow.Author.Needs.{needs}
-use Rattle.value_read.proofs.inner.content_found.Statement.{statement}
-use Rattle.value_read.proofs.inner.content_found.Tie as tie
+use Rattle.value_found.proofs.inner.content_found.Statement.{statement}
+use Rattle.value_found.proofs.inner.content_found.Tie as tie
 
 enum-told : tie.Need-enum-told
 enum-told c = search needs

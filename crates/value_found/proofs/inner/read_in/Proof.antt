@@ -1,4 +1,4 @@
--- `value_read::inner::read_in` meets its contract: what was seen of the rest, told of a value. Assumes nothing.
+-- `value_found::inner::read_in` meets its contract: what was seen of the rest, told of a value. Assumes nothing.
 use mathlib.Core.Path.{_≡_, sym, ap, _∙_}
 use mathlib.Core.Bool.{Bool}
 use Prim.Native.Nat.{ℕ, _+_, _-_, _≤_}
@@ -13,11 +13,11 @@ use Rattle.format.specs.Found.{foundOf}
 use Rattle.value_kind.specs.Told.{contentKindTold, familyTold, scalarTold}
 use Rattle.value_look.specs.declared.Seen.{Seen}
 use Rattle.value_look.specs.Told.{seenTold, Lies}
-use Rattle.value_read.specs.Told.{behind, roomBehind}
-use Rattle.value_read.proofs.Finding.{same-found, null-found, scalar-found, stops-found, part-found}
+use Rattle.value_found.specs.Told.{behind, roomBehind}
+use Rattle.value_found.proofs.Finding.{same-found, null-found, scalar-found, stops-found, part-found}
 use borrow.Author.Needs.{needs}
-use Rattle.value_read.proofs.inner.read_in.Statement.{statement}
-use Rattle.value_read.proofs.inner.read_in.Tie as tie
+use Rattle.value_found.proofs.inner.read_in.Statement.{statement}
+use Rattle.value_found.proofs.inner.read_in.Tie as tie
 
 -- where the rest was looked at
 abbrev start : tie.After-look → tie.Start
@@ -74,7 +74,8 @@ enum-known-seen-3 c = search needs
 add-next-3 : tie.Need-add-next-3
 add-next-3 c =
     let look = c .before .before .before in
-    omega (arith, start look .pre .0, lies look _ (c .before .seen3 .given .1) .1)
+    let h = lies look _ (c .before .seen3 .given .1) in
+    omega (arith, start look .pre .0, h .0, h .1)
 
 content-found-requires : tie.Need-content-found-requires
 content-found-requires c κs = search needs
@@ -83,13 +84,15 @@ add-next-4 : tie.Need-add-next-4
 add-next-4 c =
     let seen = c .before in
     let look = seen .before .before .before in
-    omega (arith, start look .pre .0, lies look _ (seen .before .seen3 .given .1) .1)
+    let h = lies look _ (seen .before .seen3 .given .1) in
+    omega (arith, start look .pre .0, h .0, h .1)
 
 add-next-5 : tie.Need-add-next-5
 add-next-5 c =
     let seen = c .before in
     let look = seen .before .before .before in
-    omega (arith, start look .pre .0, lies look _ (seen .before .seen3 .given .1) .1)
+    let h = lies look _ (seen .before .seen3 .given .1) in
+    omega (arith, start look .pre .0, h .0, h .1)
 
 enum-known-seen-4 : tie.Need-enum-known-seen-4
 enum-known-seen-4 c = search needs

@@ -1,0 +1,77 @@
+-- No two outcomes satisfy `read_value`'s contract: the kind, the places and the next place have an inverse, a scalar is the canonical one that is told, and the
+-- room is a function of the input.
+-- Assumes nothing.
+use mathlib.Core.Path.{_≡_, refl, sym, ap, _∙_}
+use mathlib.Core.List.{List, []}
+use Prim.Native.Nat.{ℕ}
+use Rattle.lists.proofs.Split.{clash}
+use Rattle.format.specs.Found as F
+use Rattle.format.proofs.Decided.{Undoes, decided, one-room}
+use Rattle.wire.specs.declared.Cursor.{Cursor}
+use Rattle.wire.specs.Told.{refusalTold}
+use Rattle.wire.proofs.Decided.{refusalBack, refusal-undoes}
+use Rattle.column_type.specs.declared.Column.{Column}
+use Rattle.column_type.specs.Told.{columnTold}
+use Rattle.value_kind.specs.Told.{scalarTold}
+use Rattle.value_kind.proofs.Canonical.{canonical-one}
+use Rattle.value_found.specs.declared.Stand.{Stand}
+use Rattle.value_found.specs.declared.Stand.the-variants as St
+use Rattle.value_found.specs.declared.Found.{Found}
+use Rattle.value_found.specs.declared.Found.the-variants as Fo
+use Rattle.value_found.specs.declared.ValueRead.{ValueRead}
+use Rattle.value_found.specs.declared.ValueRead.the-variants as R
+use Rattle.value_found.specs.Told.{standTold, foundTold, valueReadTold, CanonicalFound, CanonicalRead}
+use Rattle.value_read.specs.Told.{foundOut, roomOut}
+
+abbrev standBack : F.Stand → Stand
+standBack (F.inInput start count) = St.Input (record { start = start; count = count })
+standBack (F.inRoom start count) = St.Room (record { start = start; count = count })
+
+stand-undoes : Undoes standTold standBack
+stand-undoes (St.Input p) = refl
+stand-undoes (St.Room p) = refl
+
+stand-one : (p q : Stand) → standTold p ≡ standTold q → p ≡ q
+stand-one p q e = decided standTold standBack stand-undoes p q (standTold q) e refl
+
+found-one : (x y : Found) → CanonicalFound x → CanonicalFound y → foundTold x ≡ foundTold y → x ≡ y
+found-one Fo.Null Fo.Null p q e = refl
+found-one Fo.Null (Fo.Scalar w) p q e = clash cc
+found-one Fo.Null (Fo.Binary b) p q e = clash cc
+found-one Fo.Null (Fo.String b) p q e = clash cc
+found-one (Fo.Scalar v) Fo.Null p q e = clash cc
+found-one (Fo.Scalar v) (Fo.Scalar w) p q e = let s : scalarTold v ≡ scalarTold w = cc in ap Fo.Scalar (canonical-one v w p q s)
+found-one (Fo.Scalar v) (Fo.Binary b) p q e = clash cc
+found-one (Fo.Scalar v) (Fo.String b) p q e = clash cc
+found-one (Fo.Binary a) Fo.Null p q e = clash cc
+found-one (Fo.Binary a) (Fo.Scalar w) p q e = clash cc
+found-one (Fo.Binary a) (Fo.Binary b) p q e = let s : standTold a ≡ standTold b = cc in ap Fo.Binary (stand-one a b s)
+found-one (Fo.Binary a) (Fo.String b) p q e = clash cc
+found-one (Fo.String a) Fo.Null p q e = clash cc
+found-one (Fo.String a) (Fo.Scalar w) p q e = clash cc
+found-one (Fo.String a) (Fo.Binary b) p q e = clash cc
+found-one (Fo.String a) (Fo.String b) p q e = let s : standTold a ≡ standTold b = cc in ap Fo.String (stand-one a b s)
+
+abbrev cursorAt : ℕ → Cursor
+cursorAt n = record { at = n }
+
+pub read-one : (x y : ValueRead) → CanonicalRead x → CanonicalRead y → valueReadTold x ≡ valueReadTold y → x ≡ y
+read-one (R.Value f a) (R.Value g b) p q e =
+    let s : foundTold f ≡ foundTold g = cc in
+    let n : a .at ≡ b .at = cc in
+    ap (λ (h : Found). R.Value h a) (found-one f g p q s) ∙ ap (λ (m : ℕ). R.Value g (cursorAt m)) n
+read-one (R.Value f a) (R.Refused d) p q e = clash cc
+read-one (R.Refused d) (R.Value g b) p q e = clash cc
+read-one (R.Refused d) (R.Refused h) p q e =
+    let s : refusalTold d ≡ refusalTold h = cc in
+    ap R.Refused (decided refusalTold refusalBack refusal-undoes d h (refusalTold h) s refl)
+
+-- `value_read::read_value`: what it promises of its answer and of the room, and that this is one answer and one room
+pub record ReadsValue (c : Column) (s : List ℕ) (at : ℕ) (out : List ℕ) (r : ValueRead) (after : List ℕ) : Type 0 where
+  pub told : (b : List ℕ) → valueReadTold r ≡ foundOut (columnTold b c) s at out
+  pub canonical : CanonicalRead r
+  pub room : (b : List ℕ) → after ≡ roomOut (columnTold b c) s at out
+
+module _ (c : Column) (s : List ℕ) (at : ℕ) (out : List ℕ) (x y : ValueRead) (a b : List ℕ) where
+  pub read-value-decided : ReadsValue c s at out x a → ReadsValue c s at out y b → (x ≡ y) × (a ≡ b)
+  read-value-decided p q = (read-one x y (p .canonical) (q .canonical) (p .told [] ∙ sym (q .told [])), one-room a b _ (p .room []) (q .room []))
