@@ -41,7 +41,7 @@ WRONG_NAMES = [
 NAMES_AND_LISTS = [
     # calls and types
     Sabotage('crates/header/src/lib.rt', 'pub fn type_byte(', 'pub fn stray() {}\n\npub fn type_byte(', 'header::stray is a `pub fn` on neither list'),
-    Sabotage('crates/wire/src/lib.rt', '    pub fn high(', '    pub fn stray(self) {}\n\n    pub fn high(', 'morelquilt::Cursor::stray is not listed'),
+    Sabotage('crates/cursor/src/lib.rt', '    pub fn high(', '    pub fn stray(self) {}\n\n    pub fn high(', 'morelquilt::Cursor::stray is not listed'),
     Sabotage('crates/morelquilt/src/lib.rt', 'pub use header::Header;', 'pub use header::Header;\npub use header::type_of;', 'morelquilt::type_of is not listed'),
     Sabotage('crates/morelquilt/src/lib.rt', 'pub use text::to_utf8;\n', '', 'morelquilt::to_utf8 is listed, and not handed on'),
     Sabotage('crates/morelquilt/src/lib.rt', 'pub use wire::Guid;\n', '', 'the type morelquilt::Guid is listed, and not handed on'),
@@ -53,12 +53,12 @@ NAMES_AND_LISTS = [
     # docs/PUBLIC.md
     Sabotage('docs/PUBLIC.md', ', `morelquilt::Span`', '', 'the type morelquilt::Span is not listed'),
     Sabotage('docs/PUBLIC.md', 'the modules `bits::signed` (two\'s complement) and', 'the modules', 'bits::signed::of_i16 is a `pub fn` on neither list'),
-    Sabotage('docs/PUBLIC.md', '`wire!byte_other_refusal`, ', '', 'morelquilt::Cursor::byte has 1 must-fail edits'),
+    Sabotage('docs/PUBLIC.md', '`value_read!short_at_length`, ', '', 'morelquilt::Cursor::short_content has 1 must-fail edits'),
     Sabotage('.ci/complete.py', 'EDITS_OWED = [', "EDITS_OWED = ['morelquilt::Cursor::low', ", 'morelquilt::Cursor::low has 2 must-fail edits, and is listed as owed'),
     Sabotage('docs/PUBLIC.md', '| `headerTold r ≡ readAt readHeader s at` |', '| `headerTold r ≡ readAt readColumn s at` |', 'its contract does not say readColumn'),
     Sabotage('docs/PUBLIC.md', '| `column_size::column_size` |', '| `column_write::write_column` |', 'morelquilt::column_size is proved as column_size::column_size'),
     Sabotage('docs/PUBLIC.md', '`text!room_one_short`, ', '`value_write!room_one_short`, ', 'morelquilt::to_utf16 does not use the crate of value_write!room_one_short'),
-    Sabotage('docs/PUBLIC.md', ', and the room afterwards ≡ `roomAfterJoin text s at room`', '', 'morelquilt::join_plp has a room, and its row does not say roomAfterJoin'),
+    Sabotage('docs/PUBLIC.md', ', and the room afterwards ≡ `roomAfterJoin text s at room`', '', 'morelquilt::Cursor::join_plp has a room, and its row does not say roomAfterJoin'),
     # edits and crates
     Sabotage('crates/header/must-fail/id_twice.edit', '', None, 'there is no must-fail edit header!id_twice'),
     Sabotage('crates/header/must-fail/seven_written.edit', 'old: Wrote::Bytes(8)', 'old: Wrote::Bytes(88)',
