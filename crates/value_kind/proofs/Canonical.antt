@@ -17,9 +17,7 @@ use Rattle.format.specs.Scalar as S
 use Rattle.format.proofs.Number.{high-back}
 use Rattle.wire.specs.declared.Guid.{Guid}
 use Rattle.wire.specs.Told.{guidBytes}
-use Rattle.bits.specs.declared.float.Float32.{Float32}
 use Rattle.bits.specs.declared.float.Float32.the-variants as F32
-use Rattle.bits.specs.declared.float.Float64.{Float64}
 use Rattle.bits.specs.declared.float.Float64.the-variants as F64
 use Rattle.bits.specs.Told.{float32Of, float64Of}
 use Rattle.value_kind.specs.declared.Scalar.{Scalar}

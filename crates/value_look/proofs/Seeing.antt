@@ -2,16 +2,16 @@
 -- Behind a length byte or two length bytes the definition is given the bytes that they left; a place in those is one or two further in the whole rest.
 -- Assumes nothing.
 use mathlib.Core.Path.{_≡_, refl, sym, ap, _∙_}
-use mathlib.Core.Bool.{Bool, true, false}
+use mathlib.Core.Bool.{true, false}
 use mathlib.Core.List.{List, [], _∷_}
 use mathlib.Core.Option.{none, some}
 use Prim.Native.Nat.{ℕ, _+_, _<_, _≤_}
 use native.Mathlib.Nat.{zero-add}
 use native.Mathlib.Omega.{arith}
-use lib.Dec.{ltb, eqb, lit<}
+use lib.Dec.{ltb, lit<}
 use lib.ListN.{length, getD, take, drop, length-drop}
 use borrow.Author.Tests.{lt-ltb, le-ltb, eq-eqb, ne-eqb}
-use Rattle.format.specs.Answer.{Read, took, stops, further, follow, thenRead, mapRead, missing, long, sequence}
+use Rattle.format.specs.Answer.{Read, took, stops, further, thenRead, mapRead, missing, long, sequence}
 use Rattle.format.specs.Number.{readByte, readLow, readBytes, lowNat}
 use Rattle.format.specs.Scalar.{Kind, width, scalarOf, readScalar}
 use Rattle.format.specs.Plp.{isOdd}

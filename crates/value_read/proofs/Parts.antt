@@ -69,8 +69,10 @@ module _ (d : D.Column) (s : List ℕ) (at start count : ℕ) where
 
 -- of the calls: what `handed_back` gives of the part that `read_value` names is what `short_content` gives
 module _ (c : Column) (s : List ℕ) (at : ℕ) (out after : List ℕ) (p : Span) (next : Cursor) (names : List ℕ) where
-  pub binary-part : ReadsValue c s at out (R.Value (Fo.Binary (St.Input p)) next) after → handedBack s (p .start) (p .count) ≡ shortContent (columnTold names c) s at
+  pub binary-part : ReadsValue c s at out (R.Value (Fo.Binary (St.Input p)) next) after
+      → handedBack s (p .start) (p .count) ≡ shortContent (columnTold names c) s at
   binary-part r = found-part (columnTold names c) s at (p .start) (p .count) ContentKind.binary (length out) (next .at) (r .told names)
 
-  pub string-part : ReadsValue c s at out (R.Value (Fo.String (St.Input p)) next) after → handedBack s (p .start) (p .count) ≡ shortContent (columnTold names c) s at
+  pub string-part : ReadsValue c s at out (R.Value (Fo.String (St.Input p)) next) after
+      → handedBack s (p .start) (p .count) ≡ shortContent (columnTold names c) s at
   string-part r = found-part (columnTold names c) s at (p .start) (p .count) ContentKind.string (length out) (next .at) (r .told names)

@@ -13,10 +13,10 @@ use lib.ListN.{length, take, drop, length-drop}
 use lib.Seq.{drop-drop}
 use borrow.Author.Tests.{lt-ltb, le-ltb}
 use Rattle.lists.specs.Pick.{pick}
-use Rattle.format.specs.Answer.{Refusal, missing, rule, Read, took, stops, further, mapRead, readAt, fittedRead, roomAfterRead, inside, outside, part}
+use Rattle.format.specs.Answer.{Refusal, missing, rule, Read, stops, further, mapRead, readAt, fittedRead, roomAfterRead, inside, outside, part}
 use Rattle.format.specs.Descriptor as D
 use Rattle.format.specs.Descriptor.{keepsRule}
-use Rattle.format.specs.Value.{Value, ContentKind, Family, familyOf, contentValue, readFamily, readValue, contentOf, isPlp}
+use Rattle.format.specs.Value.{ContentKind, Family, familyOf, contentValue, readFamily, readValue, contentOf, isPlp}
 use Rattle.format.specs.Found as F
 use Rattle.format.specs.Found.{handedBack, partOrEmpty}
 use Rattle.format.proofs.Place.{at-behind, at-inside, at-stops}

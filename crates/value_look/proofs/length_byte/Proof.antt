@@ -1,11 +1,11 @@
 -- `value_look::length_byte` meets its contract: null, then a listed width, then the declared length, then the bytes, in the definition's order.
 -- Assumes nothing.
-use mathlib.Core.Path.{_≡_, sym, ap, _∙_}
+use mathlib.Core.Path.{sym, ap, _∙_}
 use Prim.Native.Nat.{_<_}
 use native.Mathlib.Omega.{arith}
 use lib.ListN.{length}
 use Rattle.format.specs.Value.{readLengthByte}
-use Rattle.value_kind.specs.Told.{kindTold, listedTold}
+use Rattle.value_kind.specs.Told.{listedTold}
 use Rattle.value_look.specs.Told.{listedKindTold}
 use Rattle.value_look.proofs.Seeing.{no-byte, byte-null, byte-unlisted, byte-long, byte-scalar}
 use borrow.Author.Needs.{needs}

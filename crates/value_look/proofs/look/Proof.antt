@@ -28,8 +28,9 @@ enum-told c = search needs
 
 returns : tie.Need-returns
 returns c =
-    let a = c .before .before .before .before .before .args in
-    (rw (c .before .before .f .given .1) (c .scalar .ensures .0 ∙ further-none _), c .scalar .ensures .1 (a .declared))
+    let known = c .before .before in
+    let start = known .before .before .before in
+    (rw (known .f .given .1) (c .scalar .ensures .0 ∙ further-none _), c .scalar .ensures .1 (start .args .declared))
 
 returns-2 : tie.Need-returns-2
 returns-2 c = (rw (c .before .before .f2 .given .1) (c .length-byte .ensures .0), c .length-byte .ensures .1)

@@ -1,5 +1,5 @@
 -- `value_look::scalar` meets its contract: as many bytes as the kind is wide are there, or they are not. Assumes nothing.
-use mathlib.Core.Path.{_≡_, sym, _∙_}
+use mathlib.Core.Path.{sym, _∙_}
 use Prim.Native.Nat.{_+_, _≤_, _<_}
 use lib.ListN.{length}
 use borrow.Author.Tests.{leb-true, leb-false}

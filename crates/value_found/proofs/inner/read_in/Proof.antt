@@ -1,14 +1,10 @@
 -- `value_found::inner::read_in` meets its contract: what was seen of the rest, told of a value. Assumes nothing.
 use mathlib.Core.Path.{_≡_, sym, ap, _∙_}
-use mathlib.Core.Bool.{Bool}
-use Prim.Native.Nat.{ℕ, _+_, _-_, _≤_}
+use Prim.Native.Nat.{_+_, _-_}
 use native.Mathlib.Omega.{arith}
-use lib.Dec.{eqb}
 use lib.ListN.{length}
 use Rattle.format.specs.Answer.{Read, took, mapRead}
-use Rattle.format.specs.Descriptor.{Column}
-use Rattle.format.specs.Plp.{plpMark}
-use Rattle.format.specs.Value.{Value, readFamily, isPlp}
+use Rattle.format.specs.Value.{Value, readFamily}
 use Rattle.format.specs.Found.{foundOf}
 use Rattle.value_kind.specs.Told.{contentKindTold, familyTold, scalarTold}
 use Rattle.value_look.specs.declared.Seen.{Seen}

@@ -1,5 +1,5 @@
 -- `value_look::listed::only` meets its contract: a list of one kind. Assumes nothing.
-use mathlib.Core.Path.{_≡_, sym, _∙_}
+use mathlib.Core.Path.{sym, _∙_}
 use borrow.Author.Tests.{eq-eqb, ne-eqb}
 use Rattle.format.specs.Scalar.{width}
 use Rattle.value_kind.specs.Told.{kindTold}
