@@ -1,62 +1,7 @@
 // Answers the frames of cases/PROTOCOL.md on standard input, a line for each.
-use replay_packet::numbers;
-use replay_packet::own;
-use replay_packet::packet;
-use replay_packet::texts;
-use replay_say::fields;
-use replay_say::say;
 use wire::Cursor;
 use wire::NumberRead;
 use wire::Width;
-
-// An op whose frame begins with the size of its room: it is lent that much.
-fn in_room(op: u8, frame: &[u8], room: &mut [u8]) {
-    match op {
-        0x21 => packet::header_write(frame, room),
-        0x22 => packet::prelogin_write(frame, room),
-        0x29 => replay_type::type_write(frame, room),
-        0x30 => replay_found::value_read(frame, room),
-        0x31 => replay_value::value_write(frame, room),
-        0x32 => replay_value::untyped_write(frame, room),
-        0x48 => texts::text_in(frame, room),
-        0x49 => texts::text_out(frame, room),
-        0x7E => own::self_test(frame, room),
-        _ => say::bad(),
-    }
-}
-
-// An op without a room; false where it is none of these.
-fn without_room(op: u8, frame: &[u8]) -> bool {
-    match op {
-        0x20 => packet::header_read(frame),
-        0x28 => replay_type::type_read(frame),
-        0x40 => replay_walk::walk_open(frame),
-        0x41 => replay_walk::walk_on(frame),
-        0x50 => numbers::guid(frame),
-        0x51 => numbers::number(frame),
-        0x52 => own::guid_read(frame),
-        _ => return false,
-    }
-    true
-}
-
-// Where a frame says how large its room is: behind the place, in the ops that read at one.
-fn room_size_at(op: u8) -> usize {
-    if op == 0x30 {
-        return 9;
-    }
-    1
-}
-
-// One frame's answer, by its op's number.
-fn answer(frame: &[u8], room: &mut [u8]) {
-    let op = fields::byte(frame, 0);
-    if without_room(op, frame) {
-        return;
-    }
-    let size = fields::size(frame, room_size_at(op), room);
-    in_room(op, frame, &mut room[..size]);
-}
 
 // How many bytes the next frame has; none where the input has ended.
 fn next_count() -> NumberRead {
@@ -74,7 +19,7 @@ fn filled(frame: &mut [u8], room: &mut [u8]) -> bool {
     if got < frame.len() {
         return false;
     }
-    answer(frame, room);
+    replay_answer::answer(frame, room);
     true
 }
 

@@ -1,9 +1,9 @@
--- `replay::answer` is safe: the size is at most the room. Assumes nothing.
+-- `replay_answer::answer` is safe: the size is at most the room. Assumes nothing.
 use mathlib.Core.Path.{sym}
 use lib.Seq.{length-take-le}
 use borrow.Author.Needs.{needs}
-use Rattle.replay.proofs.answer.Statement.{statement}
-use Rattle.replay.proofs.answer.Tie as tie
+use Rattle.replay_answer.proofs.answer.Statement.{statement}
+use Rattle.replay_answer.proofs.answer.Tie as tie
 
 byte-requires : tie.Need-byte-requires
 byte-requires c κs = search needs
@@ -14,6 +14,9 @@ without-room-requires c κs = search needs
 returns : tie.Need-returns
 returns c = search needs
 
+room-size-at-requires : tie.Need-room-size-at-requires
+room-size-at-requires c κs = search needs
+
 size-requires : tie.Need-size-requires
 size-requires c κs = search needs
 
@@ -23,7 +26,7 @@ slice-relend-prefix-in-room c = search needs
 slice-aggregate-in-room : tie.Need-slice-aggregate-in-room
 slice-aggregate-in-room c =
     let after-size = c .before in
-    let start = after-size .before .before .before .before .before .before .before in
+    let start = after-size .before .before .before .before .before .before .before .before in
     sym (length-take-le (after-size .size .result) (start .args .room .now) (after-size .size .ensures))
 
 in-room-requires : tie.Need-in-room-requires
@@ -42,6 +45,7 @@ answer-spec =
     byte-requires
     without-room-requires
     returns
+    room-size-at-requires
     size-requires
     slice-relend-prefix-in-room
     slice-aggregate-in-room
