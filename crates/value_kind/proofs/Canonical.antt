@@ -1,14 +1,12 @@
 -- Two canonical scalars that are told alike are one: what is told has one canonical scalar, `scalarBack`.
 -- A float's bits say whether they are a NaN's, and that says which of the two cases tells them; the float is the one that they stand for. A GUID's sixteen
--- bytes are its two numbers, since eight bytes hold each. What the readers of floats and GUIDs give is canonical.
+-- bytes are its two numbers, since eight bytes hold each. What the bits of a float are read as is canonical.
 -- Assumes nothing.
-use mathlib.Core.Path.{_≡_, refl, sym, ap, _∙_, subst}
-use mathlib.Core.Bool.{Bool, true, false, not}
+use mathlib.Core.Path.{_≡_, refl, sym, ap, _∙_}
+use mathlib.Core.Bool.{Bool, true, false}
 use mathlib.Core.List.{List}
 use Prim.Native.Nat.{ℕ, _^_, _<_}
-use lib.Dec.{T}
-use lib.Ieee.{Format, Float, binary32, binary64, nanBits, ofBits, toBits, isNan}
-use lib.Ieee.Bits.{nanBits-is, toBits-ofBits}
+use lib.Ieee.{Format, Float, binary32, binary64, nanBits, ofBits, toBits}
 use lib.ListN.{take, drop}
 use Rattle.lists.specs.Pick.{pick}
 use Rattle.lists.proofs.Split.{clash}
@@ -20,6 +18,7 @@ use Rattle.wire.specs.Told.{guidBytes}
 use Rattle.bits.specs.declared.float.Float32.the-variants as F32
 use Rattle.bits.specs.declared.float.Float64.the-variants as F64
 use Rattle.bits.specs.Told.{float32Of, float64Of}
+use Rattle.bits.proofs.Floats.{float32-back, float64-back}
 use Rattle.value_kind.specs.declared.Scalar.{Scalar}
 use Rattle.value_kind.specs.declared.Scalar.the-variants as C
 use Rattle.value_kind.specs.Told.{scalarTold, IsFloat, Canonical}
@@ -63,9 +62,6 @@ canonical-one x y p q e = sym (canonical-back x p) ∙ (ap scalarBack e ∙ cano
 
 -- ---- what the bits of a float are read as
 
-not-nan : (f : Format) (n : ℕ) → nanBits f n ≡ false → T (not (isNan (ofBits f n)))
-not-nan f n e = subst (λ (b : Bool). T (not b)) (sym e ∙ nanBits-is f n) tt
-
 -- the float of bits that are no NaN's has those bits
 is-float : (f : Format) (n : ℕ) (x : Float) → nanBits f n ≡ false → ofBits f n ≡ x → toBits f (ofBits f n) ≡ n → (toBits f x ≡ n) × IsFloat f x
 is-float f n x t e b =
@@ -80,7 +76,7 @@ module _ (n : ℕ) (h : n < 2 ^ 32) where
       go true t = clash (cc (rw t at e))
       go false t =
           let q : ofBits binary32 n ≡ x = cc (rw t at e) in
-          is-float binary32 n x t q (toBits-ofBits binary32 n h (not-nan binary32 n t))
+          is-float binary32 n x t q (rw t at (float32-back n h))
 
 pub float32-nan : (n m : ℕ) → F32.Nan m ≡ float32Of n → (m ≡ n) × Canonical (C.F32Nan m)
 float32-nan n m e = go (nanBits binary32 n) refl
@@ -97,7 +93,7 @@ module _ (n : ℕ) (h : n < 2 ^ 64) where
       go true t = clash (cc (rw t at e))
       go false t =
           let q : ofBits binary64 n ≡ x = cc (rw t at e) in
-          is-float binary64 n x t q (toBits-ofBits binary64 n h (not-nan binary64 n t))
+          is-float binary64 n x t q (rw t at (float64-back n h))
 
 pub float64-nan : (n m : ℕ) → F64.Nan m ≡ float64Of n → (m ≡ n) × Canonical (C.F64Nan m)
 float64-nan n m e = go (nanBits binary64 n) refl
