@@ -13,10 +13,14 @@ use borrow.Author.Tests.{ltb-false}
 use Rattle.lists.specs.Put.{putAt, front}
 use Rattle.lists.proofs.Front.{front-none, front-end, grown}
 use Rattle.format.specs.Answer.{Answer, Refusal, gives, refuses, room, andThen, fitted, wrote, roomAfter}
+use Rattle.format.specs.Value.{writeValue}
 use Rattle.format.specs.Row.{joinTwo}
 use Rattle.format.proofs.Answer.{no-gives, passed, and-took}
 use Rattle.column_type.specs.declared.Column.{Column}
+use Rattle.column_type.specs.Told.{columnTold}
 use Rattle.value_kind.specs.declared.Value.{Value}
+use Rattle.value_kind.specs.Told.{valueTold}
+use Rattle.columns.specs.None.{noColumn, noValue}
 use Rattle.row_step.specs.Steps.{startOf, turnsOf, fitIn, FitsAt, bytesIn}
 use Rattle.row_step.proofs.Sizing.{asked, all, left, here, more, none, counted, uncounted, inside}
 
@@ -116,6 +120,17 @@ module _ (buffer : List ℕ) (ys : List Column) (zs : List Value) (out₀ : List
       let g = grown j bs out₀ (x .bytes) (x .rest) _ at (length (x .bytes)) refl (z .0) (f .1) (z .1) (z .2) (sym (x .joined)) refl in
       rw (x .written) (g .room, g .same, g .holds, x .behind ∙ ap gives (sym (g .left)))
   filling-goes (refuses e) i at bs h l z = absurd (omega (arith, l))
+
+  -- the same of what a step is given and answers
+  pub filling-asks-of : (a : Answer (List ℕ)) (i at : ℕ) (bs : List ℕ) (c : Column) (v : Value) → answer ≡ a → i < turnsOf (wrote a) (length ys) →
+      Filled a i at bs → c ≡ getD ys i noColumn → v ≡ getD zs i noValue → FitsAt (writeValue (columnTold buffer c) (valueTold buffer v)) at (length bs)
+  filling-asks-of a i at bs c v h l z e f = rw (e, f) (filling-asks a i at bs h l z)
+
+  pub filling-next : (a : Answer (List ℕ)) (i at next : ℕ) (bs after : List ℕ) (c : Column) (v : Value) → answer ≡ a → i < turnsOf (wrote a) (length ys) →
+      Filled a i at bs → c ≡ getD ys i noColumn → v ≡ getD zs i noValue →
+      next ≡ at + length (bytesIn (writeValue (columnTold buffer c) (valueTold buffer v))) →
+      after ≡ putAt bs at (bytesIn (writeValue (columnTold buffer c) (valueTold buffer v))) → Filled a (i + 1) next after
+  filling-next a i at next bs after c v h l z e f p q = rw (p, q, e, f) (filling-goes a i at bs h l z)
 
   -- behind the last turn
   pub filling-ends : (a : Answer (List ℕ)) (at : ℕ) (bs : List ℕ) → answer ≡ a → Filled a (turnsOf (wrote a) (length ys)) at bs → bs ≡ roomAfter a out₀
