@@ -1,0 +1,2 @@
+pub mod None
+pub mod Told

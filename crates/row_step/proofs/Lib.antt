@@ -1,0 +1,6 @@
+pub mod Most
+pub mod Adding
+pub mod Placing
+pub mod Taken
+pub mod Sizing
+pub mod Filling
