@@ -64,7 +64,7 @@ pub fn fit_in(size: Wrote, room: usize) -> Wrote
             }
             Wrote::Bytes(n)
         }
-        Wrote::Refused(e) => Wrote::Refused(e),
+        Wrote::Refused(earlier) => Wrote::Refused(earlier),
     }
 }
 

@@ -37,15 +37,6 @@ write-value-requires c κs = search needs
 enum-known-wrote : tie.Need-enum-known-wrote
 enum-known-wrote c = search needs
 
-add-result : tie.Need-add-result
-add-result c =
-    let written = c .before in
-    let called = written .before .before .before .before in
-    let start = called .before .before .before .before in
-    let a = asked start in
-    let n = placed-count (start .args .out .now) (start .args .at) a (start .pre) _ (sym (ap wroteTold (written .wrote .given .1)) ∙ called .write-value .ensures .0) in
-    record { fits = omega (arith, n, place-in (start .args .out .now) (start .args .at) a (start .pre)) }
-
 enum-told : tie.Need-enum-told
 enum-told c = search needs
 
@@ -60,6 +51,15 @@ returns c =
     let a = asked start in
     let n = placed-count (start .args .out .now) (start .args .at) a (start .pre) _ (sym (ap wroteTold (written .wrote .given .1)) ∙ called .write-value .ensures .0) in
     (ap (λ (k : ℕ). start .args .at + k) n, placed-room (start .args .out .now) (start .args .at) a (start .pre) _ (called .write-value .ensures .1))
+
+add-result : tie.Need-add-result
+add-result c =
+    let written = c .before in
+    let called = written .before .before .before .before in
+    let start = called .before .before .before .before in
+    let a = asked start in
+    let n = placed-count (start .args .out .now) (start .args .at) a (start .pre) _ (sym (ap wroteTold (written .wrote .given .1)) ∙ called .write-value .ensures .0) in
+    record { fits = omega (arith, n, place-in (start .args .out .now) (start .args .at) a (start .pre)) }
 
 same-length-2 : tie.Need-same-length-2
 same-length-2 c = search needs
