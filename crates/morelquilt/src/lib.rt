@@ -79,3 +79,7 @@ pub use plp_walk::walk_object;
 pub use plp_walk::walk_on;
 pub use plp_walk::walk_place;
 pub use plp_walk::walk_standing;
+
+// A row, written under a lent list of columns.
+pub use row_size::row_size;
+pub use row_write::write_row;
