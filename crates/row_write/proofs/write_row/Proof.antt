@@ -54,7 +54,7 @@ use denote.Triple.Walked.{walk-meets}
 use denote.Triple.Clauses.{ensured, lasts}
 use denote.Exit.{yes}
 use Rattle.lists.specs.Put.{putAt}
-use Rattle.format.specs.Answer.{Answer, fitted, wrote, roomAfter}
+use Rattle.format.specs.Answer.{Answer, wrote, roomAfter}
 use Rattle.format.specs.Row.{writeRow}
 use Rattle.format.specs.Value.{writeValue}
 use Rattle.wire.specs.Told.{wroteTold}
