@@ -1,9 +1,8 @@
 -- One size more, of an answered count: what the definition adds to the sum, or the refusal. Why it holds: an answer's count is that of its bytes.
 -- Assumes nothing.
-use mathlib.Core.Path.{_≡_, refl, sym, ap}
+use mathlib.Core.Path.{_≡_, refl, ap}
 use mathlib.Core.List.{List}
 use Prim.Native.Nat.{ℕ, _+_}
-use lib.ListN.{length}
 use Rattle.lists.proofs.Split.{clash}
 use Rattle.format.specs.Answer.{Answer, Refusal, gives, refuses, wrote}
 use Rattle.wire.proofs.Writing.{count-is, not-refused}

@@ -12,7 +12,7 @@ use lib.Dec.{ltb}
 use borrow.Author.Tests.{ltb-false}
 use Rattle.lists.specs.Put.{putAt, front}
 use Rattle.lists.proofs.Front.{front-none, front-end, grown}
-use Rattle.format.specs.Answer.{Answer, Refusal, gives, refuses, room, andThen, fitted, wrote, roomAfter}
+use Rattle.format.specs.Answer.{Answer, gives, refuses, room, fitted, wrote, roomAfter}
 use Rattle.format.specs.Value.{writeValue}
 use Rattle.format.specs.Row.{joinTwo}
 use Rattle.format.proofs.Answer.{no-gives, passed, and-took}
@@ -22,7 +22,7 @@ use Rattle.value_kind.specs.declared.Value.{Value}
 use Rattle.value_kind.specs.Told.{valueTold}
 use Rattle.columns.specs.None.{noColumn, noValue}
 use Rattle.row_step.specs.Steps.{startOf, turnsOf, fitIn, FitsAt, bytesIn}
-use Rattle.row_step.proofs.Sizing.{asked, all, left, here, more, none, counted, uncounted, inside}
+use Rattle.row_step.proofs.Sizing.{asked, left, here, more, none, counted, uncounted, inside}
 
 -- ---- answers
 

@@ -2,11 +2,11 @@
 -- Why it holds: a scalar has at most sixteen bytes; content that was not refused as too long is no longer than its declared length, which rule 6 keeps below
 -- 256 to the fourth, or than the PLP bound; what a form puts around it has at most sixteen bytes.
 -- Assumes nothing.
-use mathlib.Core.Path.{_≡_, refl, sym, ap, _∙_}
+use mathlib.Core.Path.{_≡_, refl}
 use mathlib.Core.Bool.{Bool, true, false, not}
-use mathlib.Core.List.{List, [], _∷_, _++_}
+use mathlib.Core.List.{List, [], _∷_}
 use mathlib.Core.Option.{Option, none, some}
-use Prim.Native.Nat.{ℕ, _+_, _*_, _<_, _≤_, _^_}
+use Prim.Native.Nat.{ℕ, _+_, _<_, _≤_, _^_}
 use native.Mathlib.Omega.{arith}
 use lib.ListN.{length, length-append}
 use lib.Dec.{ltb, eqb}
@@ -16,7 +16,7 @@ use Rattle.format.specs.Answer.{Answer, gives, refuses, kind, long, rule, notCa
 use Rattle.format.specs.Text.{textIn}
 use Rattle.format.specs.Descriptor as D
 use Rattle.format.specs.Scalar.{Kind, width, kindOf, scalarBytes}
-use Rattle.format.specs.Plp.{plpMark, plpBound, chunkBytes, plpBytes}
+use Rattle.format.specs.Plp.{plpMark, plpBound, plpBytes}
 use Rattle.format.specs.Value.{Given, Family, fixedWidth, lengthByte, content, familyOf, contentBound, encodeContent, encodeIn, kindFits, stringOf}
 use Rattle.format.specs.Value.{valueOf, tooLong, bounded, writeFamily, writeValue}
 use Rattle.format.specs.Value as Values
@@ -26,7 +26,6 @@ use Rattle.format.proofs.Answer.{no-gives, passed, and-took}
 use Rattle.wire.proofs.Writing.{count-is, not-refused}
 use Rattle.value_kind.specs.declared.Value.{Value}
 use Rattle.value_kind.specs.declared.Value.the-variants as W
-use Rattle.value_kind.specs.declared.Scalar.{Scalar}
 use Rattle.value_kind.specs.Told.{scalarTold, valueTold}
 use Rattle.value_kind.proofs.ScalarLaws.{length-bytes}
 use Rattle.value_kind.proofs.ColumnLaws.{length-fits}

@@ -2,11 +2,11 @@
 -- Why it holds: the rest is as long as the room less the place, and the bytes are no longer. What stands before the place was not lent, and what stands behind
 -- the bytes the writer keeps.
 -- Assumes nothing.
-use mathlib.Core.Path.{_≡_, refl, sym, ap, _∙_}
-use mathlib.Core.List.{List, _++_}
-use Prim.Native.Nat.{ℕ, _+_, _-_, _<_, _≤_}
+use mathlib.Core.Path.{_≡_, ap, _∙_}
+use mathlib.Core.List.{List}
+use Prim.Native.Nat.{ℕ, _+_, _-_, _≤_}
 use native.Mathlib.Omega.{arith}
-use lib.ListN.{length, drop, length-drop}
+use lib.ListN.{length, length-drop}
 use borrow.Author.Tests.{le-ltb}
 use borrow.Rule.Slice.PartMut.{putMid, midOf}
 use Rattle.lists.specs.Put.{putAt}

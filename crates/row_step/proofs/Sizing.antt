@@ -4,16 +4,15 @@
 -- Assumes nothing.
 use mathlib.Core.Path.{_≡_, refl, sym, ap, _∙_}
 use mathlib.Core.Bool.{Bool, true, false, not}
-use mathlib.Core.List.{List, [], _∷_, _++_, map}
-use Prim.Native.Nat.{ℕ, _+_, _*_, _<_, _≤_}
+use mathlib.Core.List.{List, []}
+use Prim.Native.Nat.{ℕ, _+_, _<_, _≤_}
 use native.Mathlib.Omega.{arith}
-use native.Mathlib.Nat.{add-zero, zero-add, add-assoc, mul-comm}
+use native.Mathlib.Nat.{add-zero, zero-add, add-assoc}
 use lib.ListN.{length, getD, drop, length-map, length-append}
 use lib.Dec.{ltb, eqb}
 use borrow.Author.Tests.{ltb-false, eqb-true, not-false}
 use Rattle.format.specs.Answer.{Answer, Refusal, gives, refuses, rule, refuseIf, andThen, wrote}
-use Rattle.format.specs.Descriptor as D
-use Rattle.format.specs.Value.{Given, writeValue}
+use Rattle.format.specs.Value.{writeValue}
 use Rattle.format.specs.Row.{maxColumns, joinTwo, writeValues, writeRow}
 use Rattle.format.proofs.Answer.{no-gives, passed}
 use Rattle.column_type.specs.declared.Column.{Column}

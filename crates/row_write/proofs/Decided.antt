@@ -1,4 +1,5 @@
--- No two outcomes satisfy the contract of `row_size` or of `write_row`. Why it holds: `wroteTold` has an inverse, and the room is a function of what was passed.
+-- No two outcomes satisfy the contract of `row_size` or of `write_row`.
+-- Why it holds: `wroteTold` has an inverse, and the room is a function of what was passed.
 -- Assumes nothing.
 use mathlib.Core.Path.{_≡_}
 use mathlib.Core.List.{List}

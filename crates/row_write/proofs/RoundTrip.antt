@@ -1,14 +1,13 @@
--- Whatever `write_row` writes reads back. Where it answers n bytes, the room afterwards, read from its front, reads as the values that were given and ends at n;
--- its first n bytes are their own normal form; behind them the room is as it was.
--- Asked of the values is their range alone, which every value of the code's types has: an unsigned number of 8 bits, a whole number of 16, 32 or 64 bits, a
--- float's bits.
--- Why it holds: by the contract the bytes are those that `writeRow` gives, at the front of the room, and what `writeRow` gives reads back (`row-agrees` of format).
+-- Whatever `write_row` writes reads back. Where it answers n bytes, the room afterwards, read from its front, reads as the values that were given and ends
+-- at n; its first n bytes are their own normal form; behind them the room is as it was.
+-- Asked of the values is that they are values of the code's type, as every value that a program holds is (`Typed`).
+-- Why it holds: by the contract the bytes are those that `writeRow` gives, at the front of the room, and what `writeRow` gives reads back (`row-agrees` of
+-- format). A value of the code's type is in the range that this asks for (proofs/Ranges.antt).
 -- Assumes nothing.
-use mathlib.Core.Path.{_≡_, refl, sym, ap, _∙_}
+use mathlib.Core.Path.{_≡_, refl}
 use mathlib.Core.Bool.{Bool, true, false}
 use mathlib.Core.List.{List, _++_}
-use Prim.Native.Nat.{ℕ, _≤_}
-use native.Mathlib.Omega.{arith}
+use Prim.Native.Nat.{ℕ}
 use lib.Dec.{ltb}
 use lib.ListN.{length, take, drop}
 use lib.Seq.{take-append-seam, drop-append-seam}
@@ -16,14 +15,14 @@ use Rattle.format.specs.Answer.{Answer, gives, refuses, took, room, fitted, wro
 use Rattle.format.specs.Value as Values
 use Rattle.format.specs.Row.{readRow}
 use Rattle.format.specs.Normal.{normal}
-use Rattle.format.proofs.Answer.{passed}
-use Rattle.format.proofs.Writing.{RangedAll, GivenAll, RowAgrees, row-agrees}
+use Rattle.format.proofs.Writing.{RangedAll, GivenAll, row-agrees}
 use Rattle.wire.specs.declared.Wrote.the-variants as W
 use Rattle.wire.proofs.Writing.{count-is, not-refused}
 use Rattle.column_type.specs.declared.Column.{Column}
 use Rattle.value_kind.specs.declared.Value.{Value}
 use Rattle.columns.specs.Told.{columnsTold, valuesTold}
 use Rattle.row_write.proofs.Decided.{asked, WritesRow}
+use Rattle.row_write.proofs.Ranges.{Typed, all-ranged}
 
 -- an answered count is that of the bytes that were asked for
 record Gave (a : Answer (List ℕ)) (size n : ℕ) : Type 0 where
@@ -68,7 +67,7 @@ module _ (buffer : List ℕ) (cols : List Column) (values : List Value) (out aft
         kept = rw (e, c) (drop-append-seam j (drop (length j) out));
       }
 
-  pub reads-back : RangedAll (valuesTold buffer values) → WritesRow buffer cols values out (W.Bytes n) after → ReadsBack buffer cols values out after n
+  pub reads-back : Typed values → WritesRow buffer cols values out (W.Bytes n) after → ReadsBack buffer cols values out after n
   reads-back r p =
       let g = gave (asked buffer cols values) (length out) n (p .answer) in
-      back (g .bytes) (g .given) (g .count) (after-is (g .bytes) (g .fit) (p .room)) r
+      back (g .bytes) (g .given) (g .count) (after-is (g .bytes) (g .fit) (p .room)) (all-ranged buffer values r)

@@ -54,7 +54,7 @@ use denote.Triple.Walked.{walk-meets}
 use denote.Triple.Clauses.{ensured, lasts}
 use denote.Exit.{yes}
 use Rattle.lists.specs.Put.{putAt}
-use Rattle.format.specs.Answer.{Answer, fitted, wrote, roomAfter}
+use Rattle.format.specs.Answer.{Answer, wrote, roomAfter}
 use Rattle.format.specs.Row.{writeRow}
 use Rattle.format.specs.Value.{writeValue}
 use Rattle.wire.specs.Told.{wroteTold}
@@ -404,7 +404,7 @@ module _ {M : Type 1} (𝓤 : URA M) (H : Heap 𝓤) (A : Atoms 𝓤) (W : Given
       qed W (‵ tX ∷ ‵ OwnX ∷ ‵ tY ∷ ‵ OwnY ∷ ‵ tZ ∷ ‵ OwnZ ∷ ‵ tO ∷ ‵ (OwnO bs) ∷ []) ∵
       suffices ! _ (ends-at 𝓤 H A fn.ended stayed (fn.clauses 𝓤 H A mem run) W binds u f (tt, (tt, (tt, (bs, tt)))) (tt, (tt, (tt, (l, tt))))) $
       -- the two clauses, one after the other
-      suffices ! _ (assoc∗ 𝓤 (Ends f u bs) (fact 𝓤 (wroteTold f ≡ wrote a)) (fact 𝓤 (bs ≡ roomAfter a bs₀))) $ says ! (e .1) $ says ! (e .0) $
+      suffices ! _ (assoc∗ 𝓤 (Ends f u bs) (fact 𝓤 _) (fact 𝓤 _)) $ says ! (e .1) $ says ! (e .0) $
       nothing ! $ move ! (7 ∷ 0 ∷ []) $ join ! $ move ! (5 ∷ 0 ∷ []) $ join ! $ move ! (3 ∷ 0 ∷ []) $ join ! $ move ! (1 ∷ 0 ∷ []) $ join ! $ frame ! $
       -- [cols's; values's; buffer's; out's]
       nothing ! $ move ! (4 ∷ 0 ∷ []) $ fjoin ! $ move ! (3 ∷ 0 ∷ []) $ fjoin ! $ move ! (2 ∷ 0 ∷ []) $ fjoin ! $ move ! (1 ∷ 0 ∷ []) $ fjoin ! $ frame ! $

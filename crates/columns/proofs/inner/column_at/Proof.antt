@@ -1,7 +1,7 @@
 -- `columns::inner::column_at` meets its contract: a walk of its MIR, by hand. The place of `cols[i]` is i times the record's size past the slice's pointer.
 -- The whole record is read there. It is Copy: what it owns is had twice, one copy goes back with the element and the other is the result's.
 -- Assumes nothing.
-use mathlib.Core.Path.{_≡_, refl, sym}
+use mathlib.Core.Path.{refl, sym}
 use Prim.Native.Nat.{ℕ, _<_, _*_, _^_}
 use native.Mathlib.Omega.{arith}
 use mathlib.Core.List.{List, [], _∷_}

@@ -1,6 +1,6 @@
 -- `row_step::inner::fill_on` meets its contract: the value's writer, lent the unused rest of the room, puts the bytes at the place. It is not refused, since
 -- the bytes fit. Assumes nothing.
-use mathlib.Core.Path.{_≡_, sym, ap, _∙_}
+use mathlib.Core.Path.{sym, ap, _∙_}
 use mathlib.Core.List.{List}
 use Prim.Native.Nat.{ℕ, _+_}
 use native.Mathlib.Omega.{arith}

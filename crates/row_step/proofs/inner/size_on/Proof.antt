@@ -1,15 +1,15 @@
 -- `row_step::inner::size_on` meets its contract: the value's size behind the sum, or the first refusal. The sum does not overflow, since it is that of at most
 -- 1,024 values and no value takes more than `mostOf`. Assumes nothing.
-use mathlib.Core.Path.{_≡_, refl, sym, ap, _∙_}
+use mathlib.Core.Path.{_≡_, sym, ap, _∙_}
 use mathlib.Core.List.{List}
-use Prim.Native.Nat.{ℕ, _+_, _*_, _≤_}
+use Prim.Native.Nat.{ℕ, _*_, _≤_}
 use native.Mathlib.Omega.{arith}
-use Rattle.format.specs.Answer.{Answer, Refusal, gives, refuses, wrote}
+use Rattle.format.specs.Answer.{Answer, gives, wrote}
 use Rattle.format.specs.Value.{writeValue}
 use Rattle.wire.specs.Told.{wroteTold}
 use Rattle.column_type.specs.Told.{columnTold}
 use Rattle.value_kind.specs.Told.{valueTold}
-use Rattle.row_step.specs.Steps.{Below, mostOf, sizeOn}
+use Rattle.row_step.specs.Steps.{Below, mostOf}
 use Rattle.row_step.proofs.Most.{most-wrote}
 use Rattle.row_step.proofs.Adding.{added, added-refused}
 use borrow.Author.Needs.{needs}
