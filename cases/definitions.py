@@ -47,7 +47,7 @@ use mathlib.Core.Bool.{true, false}
 use mathlib.Core.Option.{none, some}
 use Prim.Native.Nat.{ℕ}
 use lib.IntN.{pos, negsuc}
-use Rattle.%s.specs.Line.{rep, run, runTwo, filler, named, Line, ok, no, line, writing, copying, reading, opening, readGuid}
+use Rattle.%s.specs.Line.{rep, run, runTwo, filler, named, Line, ok, no, line, writing, copying, reading, readGuid}
 '''
 # Definitions changed in the canary's copy: the file, the line, what stands there instead, and the cases that must then be refused.
 CANARY = [
@@ -59,8 +59,8 @@ CANARY = [
     ('Descriptor', 'schemaFits (byteLen t) (some n) = false', 'schemaFits (byteLen t) (some n) = true', ['own-3000565']),
     ('Descriptor', 'nameFits w (inside s) = both (eqb (length s % 2) 0) (ltb (length s / 2) (256 ^ w))',
      'nameFits w (inside s) = both (eqb (length s % 2) 0) (ltb (length s / 2) (256 ^ w + 1))', ['own-3000619', 'own-3000621']),
-    ('Plp', 'opened total text = record { at = 8; sum = 0; total = total; text = text; ended = false }',
-     'opened total text = record { at = 8; sum = 0; total = total; text = text; ended = true }', ['public-20158']),
+    ('Plp', 'openedAt total text at = record { at = at; sum = 0; total = total; text = text; ended = false }',
+     'openedAt total text at = record { at = at; sum = 0; total = total; text = text; ended = true }', ['public-20158']),
     ('Value', 'untypedString = 4000', 'untypedString = 4001', ['own-3000686', 'own-3000688']),
     ('Row', 'maxColumns = 1024', 'maxColumns = 1025', ['own-3000692', 'own-3000697', 'own-3000699']),
 ]

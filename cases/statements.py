@@ -29,7 +29,6 @@ use Rattle.format.specs.Answer.{Answer, gives, refuses, Read, took, stops, numb
 use Rattle.format.specs.Number.{readBytes}
 use Rattle.format.specs.Guid.{guidOrder}
 use Rattle.format.specs.Descriptor.{Schema}
-use Rattle.format.specs.Plp.{PlpHead, isNull, chunked, Walk, opened}
 
 -- n times the same elements in front of others.
 abbrev pub rep : {A : Type 0} → ℕ → List A → List A → List A
@@ -81,14 +80,6 @@ nothing v = []
 
 abbrev pub reading : {A : Type 0} → Read A → Line (Read A)
 reading answer = read nothing answer []
-
--- A walk's whole state where it is opened at a place of the input: `opened` counts from the value's first byte.
-abbrev pub from : ℕ → Walk → Walk
-from at w = record { at = at + w .at; sum = w .sum; total = w .total; text = w .text; ended = w .ended }
-
-abbrev pub opening : Bool → ℕ → PlpHead → Option Walk
-opening text at isNull = none
-opening text at (chunked total) = some (from at (opened total text))
 
 -- Sixteen bytes in wire order, read in text order.
 abbrev pub readGuid : List ℕ → Read (List ℕ)
@@ -277,8 +268,7 @@ class Statement:
         return self.copying('(λ (b : List ℕ). b)', '(normal %s)' % self.columns(), lambda ok: bytes_(unhx(ok['out'])))
 
     def walk_open(self):
-        opened = 'mapRead (opening %s %d) %s' % (truth(self.case['text']), self.at, self.read_at('readPlpHead'))
-        return 'reading (%s)' % opened, self.took(lambda ok: option(ok['walk'] and walk(ok['walk'])))
+        return 'reading (openWalk %s %s %d)' % (truth(self.case['text']), bytes_(self.raw), self.at), self.took(lambda ok: option(ok['walk'] and walk(ok['walk'])))
 
     def walk(self):
         walked = 'walkChunks %d %s %s' % (self.case['allowed'], bytes_(self.raw), walk(self.case['walk']))

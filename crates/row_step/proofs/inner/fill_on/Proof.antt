@@ -20,13 +20,13 @@ asked start = writeValue (columnTold (start .args .buffer .now) (start .args .c)
 
 sub-write-value : tie.Need-sub-write-value
 sub-write-value c =
-    let start = c .before .before in
-    omega (arith, place-in (start .args .out .now) (start .args .at) (asked start) (start .pre))
+    let start′ = c .before .before in
+    omega (arith, place-in (start′ .args .out .now) (start′ .args .at) (asked start′) (start′ .pre))
 
 part-write-value-start : tie.Need-part-write-value-start
 part-write-value-start c =
-    let start = c .before .before in
-    omega (arith, place-in (start .args .out .now) (start .args .at) (asked start) (start .pre))
+    let start′ = c .before .before in
+    omega (arith, place-in (start′ .args .out .now) (start′ .args .at) (asked start′) (start′ .pre))
 
 part-write-value-end : tie.Need-part-write-value-end
 part-write-value-end c = search needs
@@ -45,30 +45,38 @@ same-length c = search needs
 
 returns : tie.Need-returns
 returns c =
-    let written = c .before in
-    let called = written .before .before .before .before in
-    let start = called .before .before .before .before in
-    let a = asked start in
-    let n = placed-count (start .args .out .now) (start .args .at) a (start .pre) _ (sym (ap wroteTold (written .wrote .given .1)) ∙ called .write-value .ensures .0) in
-    (ap (λ (k : ℕ). start .args .at + k) n, placed-room (start .args .out .now) (start .args .at) a (start .pre) _ (called .write-value .ensures .1))
+    let after-wrote = c .before in
+    let after-write-value = after-wrote .before .before .before .before in
+    let start′ = after-write-value .before .before .before .before in
+    let a = asked start′ in
+    let n =
+    placed-count (start′ .args .out .now) (start′ .args .at) a (start′ .pre) _
+    (sym (ap wroteTold (after-wrote .wrote .given .1)) ∙ after-write-value .write-value .ensures .0) in (
+      ap (λ (k : ℕ). start′ .args .at + k) n,
+      placed-room (start′ .args .out .now) (start′ .args .at) a (start′ .pre) _
+          (after-write-value .write-value .ensures .1),
+    )
 
 add-result : tie.Need-add-result
 add-result c =
-    let written = c .before in
-    let called = written .before .before .before .before in
-    let start = called .before .before .before .before in
-    let a = asked start in
-    let n = placed-count (start .args .out .now) (start .args .at) a (start .pre) _ (sym (ap wroteTold (written .wrote .given .1)) ∙ called .write-value .ensures .0) in
-    record { fits = omega (arith, n, place-in (start .args .out .now) (start .args .at) a (start .pre)) }
+    let after-wrote = c .before in
+    let after-write-value = after-wrote .before .before .before .before in
+    let start′ = after-write-value .before .before .before .before in
+    let a = asked start′ in
+    let n =
+    placed-count (start′ .args .out .now) (start′ .args .at) a (start′ .pre) _
+    (sym (ap wroteTold (after-wrote .wrote .given .1)) ∙ after-write-value .write-value .ensures .0) in
+    record { fits = omega (arith, n, place-in (start′ .args .out .now) (start′ .args .at) a (start′ .pre)) }
 
 same-length-2 : tie.Need-same-length-2
 same-length-2 c = search needs
 
 returns-2 : tie.Need-returns-2
 returns-2 c =
-    let called = c .before .before .before .before in
-    let start = called .before .before .before .before in
-    not-placed (start .args .out .now) (start .args .at) (asked start) (start .pre) _ (sym (ap wroteTold (c .enum-told .given .1)) ∙ called .write-value .ensures .0)
+    let after-write-value = c .before .before .before .before in
+    let start′ = after-write-value .before .before .before .before in
+    not-placed (start′ .args .out .now) (start′ .args .at) (asked start′) (start′ .pre) _
+    (sym (ap wroteTold (c .enum-told .given .1)) ∙ after-write-value .write-value .ensures .0)
 
 pub fill-on-spec : {M : Type 1} → statement M
 fill-on-spec =

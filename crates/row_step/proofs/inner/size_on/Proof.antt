@@ -21,7 +21,9 @@ abbrev asked : tie.Start → Answer (List ℕ)
 asked start = writeValue (columnTold (start .args .buffer .now) (start .args .c)) (valueTold (start .args .buffer .now) (start .args .v))
 
 -- the value's size that was found, beside the sum
-found : (c : tie.After-size) → gives (c .size .given .0 .0) ≡ wrote (asked (c .before .before .before .before .before .before .before))
+found : (c : tie.After-size) →
+    let start = c .before .before .before .before .before .before .before in
+    gives (c .size .given .0 .0) ≡ wrote (asked start)
 found c = sym (ap wroteTold (c .size .given .1)) ∙ c .before .before .value-size .ensures
 
 enum-known-s : tie.Need-enum-known-s
@@ -35,13 +37,13 @@ enum-known-size c = search needs
 
 add-t12 : tie.Need-add-t12
 add-t12 c =
-    let sized = c .before in
-    let going = sized .before .before .before .before in
-    let start = going .before .before .before in
-    let a = start .args in
-    let b : Below 1024 (wroteTold (a .s)) = start .pre in
-    let n : going .s .given .0 .0 ≤ 1024 * mostOf = rw (going .s .given .1) at b in
-    record { fits = omega (arith, n, most-wrote (a .buffer .now) (columnTold (a .buffer .now) (a .c)) (a .v) _ (found sized)) }
+    let place-1 = c .before in
+    let after-s = place-1 .before .before .before .before in
+    let start′ = after-s .before .before .before in
+    let a = start′ .args in
+    let b : Below 1024 (wroteTold (a .s)) = start′ .pre in
+    let n : after-s .s .given .0 .0 ≤ 1024 * mostOf = rw (after-s .s .given .1) at b in
+    record { fits = omega (arith, n, most-wrote (a .buffer .now) (columnTold (a .buffer .now) (a .c)) (a .v) _ (found place-1)) }
 
 enum-known-size-2 : tie.Need-enum-known-size-2
 enum-known-size-2 c = search needs
@@ -51,18 +53,19 @@ enum-known-s-2 c = search needs
 
 returns : tie.Need-returns
 returns c =
-    let sized = c .before in
-    let going = sized .before .before .before .before in
-    let start = going .before .before .before in
-    rw (going .s .given .1) (added (asked start) (going .s .given .0 .0) (sized .size .given .0 .0) (found sized))
+    let after-size = c .before in
+    let after-s = after-size .before .before .before .before in
+    let place-8 = after-s .before .before .before in
+    rw (after-s .s .given .1) (added (asked place-8) (after-s .s .given .0 .0) (after-size .size .given .0 .0) (found after-size))
 
 returns-2 : tie.Need-returns-2
 returns-2 c =
-    let refused = c .before in
-    let going = refused .before .before .before .before in
-    let start = going .before .before .before in
-    rw (going .s .given .1)
-    (added-refused (asked start) (going .s .given .0 .0) _ (sym (ap wroteTold (refused .size2 .given .1)) ∙ refused .before .before .value-size .ensures))
+    let after-size2 = c .before in
+    let after-value-size = after-size2 .before .before in
+    let after-s = after-value-size .before .before in
+    let place-8 = after-s .before .before .before in
+    rw (after-s .s .given .1)
+    (added-refused (asked place-8) (after-s .s .given .0 .0) _ (sym (ap wroteTold (after-size2 .size2 .given .1)) ∙ after-value-size .value-size .ensures))
 
 returns-3 : tie.Need-returns-3
 returns-3 c = rw (c .before .s2 .given .1)
