@@ -31,7 +31,9 @@ fn collation_size(c: Collation) -> usize
     }
 }
 
-// A marker, and the three names where there are any. The buffer is there for the contract alone.
+// A marker, and the three names where there are any. The buffer is there for the contract alone. The
+// bound is any that lets the sizes be added: names that fit take 132,095 bytes at most, 5 and twice
+// 255, 255 and 65,535 units.
 fn marked_size(n: Schema, names: &[u8]) -> usize
     requires { ⌜ namesFit (schemaTold (now names) n) ≡ true ⌝ }
     ensures { λ r. ⌜ (r ≡ length (schemaBytes xml (schemaTold (now (names .entry)) n))) × (r ≤ 200000) ⌝ }

@@ -10,7 +10,7 @@ use wire::Cursor;
 use wire::Refusal;
 use wire::Wrote;
 
-// MS-TDS 2.2.3.1.1.
+// The packet types, by their names in MS-TDS, "Packet Header".
 pub enum PacketType {
     SqlBatch,
     PreTds7Login,
@@ -25,7 +25,7 @@ pub enum PacketType {
     Prelogin,
 }
 
-// MS-TDS 2.2.3.1.2, the five that the Rust has.
+// The packet statuses that document 01 lists, the five that the Rust has.
 pub enum PacketStatus {
     Normal,
     EndOfMessage,

@@ -8,7 +8,7 @@ use Rattle.prelogin.specs.declared.Encryption.{Encryption}
 use Rattle.prelogin.specs.declared.Encryption.the-variants as E
 use Rattle.prelogin.specs.declared.Prelogin.{Prelogin}
 
--- MS-TDS 2.2.6.5: ENCRYPT_OFF, ENCRYPT_ON, ENCRYPT_NOT_SUP, ENCRYPT_REQ
+-- MS-TDS, PRELOGIN: ENCRYPT_OFF, ENCRYPT_ON, ENCRYPT_NOT_SUP, ENCRYPT_REQ
 abbrev pub encryptionNumber : Encryption → ℕ
 encryptionNumber E.Off = 0
 encryptionNumber E.On = 1

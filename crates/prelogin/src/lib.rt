@@ -1,4 +1,4 @@
-// The prelogin message, writing: MS-TDS 2.2.6.5.
+// The prelogin message, writing: MS-TDS, PRELOGIN.
 ghost use mathlib.Core.Path.{_≡_};
 ghost use Prim.Native.Nat.{_+_, _≤_};
 ghost use lib.ListN.{length};
