@@ -1,18 +1,17 @@
 // One frame's answer, by its op's number.
-use replay_packet::numbers;
-use replay_packet::own;
-use replay_packet::packet;
-use replay_packet::texts;
+use replay_number::numbers;
+use replay_number::own;
+use replay_number::texts;
 use replay_say::fields;
 use replay_say::say;
 
 // An op whose frame begins with the size of its room: it is lent that much.
 fn in_room(op: u8, frame: &[u8], room: &mut [u8]) {
     match op {
-        0x21 => packet::header_write(frame, room),
-        0x22 => packet::prelogin_write(frame, room),
+        0x21 => replay_packet::header_write(frame, room),
+        0x22 => replay_packet::prelogin_write(frame, room),
         0x29 => replay_type::type_write(frame, room),
-        0x30 => replay_found::value_read(frame, room),
+        0x30 => replay_read::value_read(frame, room),
         0x31 => replay_value::value_write(frame, room),
         0x32 => replay_value::untyped_write(frame, room),
         0x48 => texts::text_in(frame, room),
@@ -25,7 +24,7 @@ fn in_room(op: u8, frame: &[u8], room: &mut [u8]) {
 // An op without a room; false where it is none of these.
 fn without_room(op: u8, frame: &[u8]) -> bool {
     match op {
-        0x20 => packet::header_read(frame),
+        0x20 => replay_packet::header_read(frame),
         0x28 => replay_type::type_read(frame),
         0x40 => replay_walk::walk_open(frame),
         0x41 => replay_walk::walk_on(frame),

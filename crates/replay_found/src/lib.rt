@@ -1,18 +1,14 @@
-// value_read, and the words of a value that was read.
+// The words of a value that was read.
 use bits::float;
 use bits::float::Float32;
 use bits::float::Float64;
 use bits::signed;
-use cursor::Cursor;
-use cursor::ValueRead;
-use replay_say::fields;
 use replay_say::say;
 use value_found::Found;
 use value_found::Stand;
 use value_kind::Scalar;
 use value_kind::Span;
 use wire::Guid;
-use wire::Wrote;
 
 // A truth value, as 0 or 1.
 fn show_bit(b: bool) {
@@ -91,7 +87,7 @@ fn show_stand(p: Stand, s: &[u8], room: &[u8]) {
 }
 
 // A value that was read.
-fn show(f: Found, s: &[u8], room: &[u8]) {
+pub fn show(f: Found, s: &[u8], room: &[u8]) {
     match f {
         Found::Null => say::word(b" null"),
         Found::Scalar(v) => show_scalar(v),
@@ -115,30 +111,11 @@ fn in_room(p: Stand) -> usize {
 }
 
 // How many bytes of the room a value takes.
-fn copied(f: Found) -> usize {
+pub fn copied(f: Found) -> usize {
     match f {
         Found::Null => 0,
         Found::Scalar(_) => 0,
         Found::Binary(p) => in_room(p),
         Found::String(p) => in_room(p),
-    }
-}
-
-// The value of a column at a place of the input.
-pub fn value_read(frame: &[u8], room: &mut [u8]) {
-    let c = replay_type::column(frame, 13);
-    let from = fields::place(frame, 1);
-    let cursor = Cursor { at: from.at };
-    say::fill(room);
-    let s = fields::rest(frame, 83);
-    match cursor.value(c, s, room) {
-        ValueRead::Value(f, next) => {
-            say::ok();
-            say::number(next.at as u64);
-            show(f, s, room);
-            say::front(room, copied(f));
-            say::end();
-        }
-        ValueRead::Refused(e) => say::wrote(Wrote::Refused(e), room),
     }
 }
