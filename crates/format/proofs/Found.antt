@@ -184,10 +184,10 @@ found-stands d s at (Value.binary c) next h room before after e = either d s at 
 found-stands d s at (Value.string c) next h room before after e = either d s at (Value.string c) next h room before after e c refl refl (isPlp d) refl
 
 -- what was read with a room was read
-fits : {X : Type 0} (copied : X → List ℕ) (size : ℕ) (r : Read X) (x : X) (next : ℕ) → fittedRead copied r size ≡ took x next → r ≡ took x next
+pub read-fits : {X : Type 0} (copied : X → List ℕ) (size : ℕ) (r : Read X) (x : X) (next : ℕ) → fittedRead copied r size ≡ took x next → r ≡ took x next
 unfolding fittedRead
-fits copied size (took y n) x next h = past (ltb size (length (copied y))) _ (took y n) x next h .1
-fits copied size (stops e) x next h = h
+read-fits copied size (took y n) x next h = past (ltb size (length (copied y))) _ (took y n) x next h .1
+read-fits copied size (stops e) x next h = h
 
 -- a value and its room: the room after the read holds what the value copies at its front
 module _ (d : Column) (s : List ℕ) (at : ℕ) (v : Value) (next : ℕ) (out : List ℕ) where
@@ -197,7 +197,7 @@ module _ (d : Column) (s : List ℕ) (at : ℕ) (v : Value) (next : ℕ) (out : 
   pub read-stands : read ≡ took v next → Stands s (roomAfterRead (copiedOut d) read out) (foundOf d at 0 v) v
   unfolding roomAfterRead
   read-stands h =
-      let e = fits (copiedOut d) (length out) (readAt (readValue d) s at) v next h in
+      let e = read-fits (copiedOut d) (length out) (readAt (readValue d) s at) v next h in
       found-stands d s at v next e (roomAfterRead (copiedOut d) read out) [] (drop (length (copiedOut d v)) out) (rw h)
 
 -- ---- a row: each column at its own place
@@ -253,7 +253,7 @@ module _ (ds : List Column) (s : List ℕ) (at : ℕ) (vs : List Value) (next : 
   pub read-row-stands : readOut ≡ took vs next → AllStand s (roomAfterRead (copiedOutRow ds) readOut out) (foundRow ds s at 0) vs
   unfolding roomAfterRead
   read-row-stands h =
-      let e = columns (fits (copiedOutRow ds) (length out) (readAt (readRow ds) s at) vs next h) in
+      let e = columns (read-fits (copiedOutRow ds) (length out) (readAt (readRow ds) s at) vs next h) in
       row-stands ds s at vs next e (roomAfterRead (copiedOutRow ds) readOut out) [] (drop (length (copiedOutRow ds vs)) out) (rw h)
 
 -- ---- with more bytes behind the input: what was found is found where it was, unless bytes are missing

@@ -7,6 +7,7 @@ ghost use Rattle.format.specs.Plp.{plpBound, headOf, aboveTotal, unlikeTotal, i
 ghost use Rattle.plp.specs.Told.{totalTold, eightTold};
 use crate::Total;
 use wire::Refusal;
+use wire::marks;
 
 // What the eight bytes say.
 pub enum Eight {
@@ -19,17 +20,17 @@ pub enum Eight {
 pub fn bound() -> u64
     ensures { λ r. ⌜ r ≡ plpBound ⌝ }
 {
-    65535
+    marks::PLP_BOUND as u64
 }
 
 // All FF is null; FE then seven FF is unknown; else the total, within the bound.
 pub fn eight_of(n: u64) -> Eight
     ensures { λ r. ⌜ eightTold r ≡ headOf n [] ⌝ }
 {
-    if n == 18446744073709551615 {
+    if n == marks::PLP_NULL {
         return Eight::Null;
     }
-    if n == 18446744073709551614 {
+    if n == marks::PLP_UNKNOWN {
         return Eight::Chunked(Total::Unknown);
     }
     if bound() < n {

@@ -18,6 +18,7 @@ use value_kind::family::ContentKind;
 use value_kind::kinds;
 use value_size::content;
 use wire::Wrote;
+use wire::marks;
 
 // The declared length of short content, and up to how many bytes content is short: binary as it is,
 // a string by its UTF-8.
@@ -56,7 +57,7 @@ pub fn untyped_length(short: bool) -> u64
     if short {
         return UNTYPED_LENGTH as u64;
     }
-    content::PLP_MARK as u64
+    marks::PLP_MARK as u64
 }
 
 // How many bytes of descriptor stand in front of content without a type.

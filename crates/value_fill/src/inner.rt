@@ -17,13 +17,7 @@ use value_kind::family::ContentKind;
 use value_kind::family::Family;
 use value_kind::kinds;
 use value_size::content;
-
-// Null in place of a PLP total, an unknown total, and null in place of a short length.
-const PLP_NULL: u64 = 0xFFFFFFFFFFFFFFFF;
-
-const PLP_UNKNOWN: u64 = 0xFFFFFFFFFFFFFFFE;
-
-const SHORT_NULL: u64 = 0xFFFF;
+use wire::marks;
 
 // The value's bytes from at.
 pub fn put_scalar(out: &mut [u8], at: usize, s: Scalar)
@@ -52,10 +46,10 @@ fn fill_null(f: Family, declared: u32, out: &mut [u8])
         Family::LengthByte(_) => wire::inner::put_byte(out, 0, 0),
         Family::Content(_) => {
             if content::is_plp(declared) {
-                wire::inner::put_low(out, 0, PLP_NULL, 8);
+                wire::inner::put_low(out, 0, marks::PLP_NULL, 8);
                 return;
             }
-            wire::inner::put_low(out, 0, SHORT_NULL, 2);
+            wire::inner::put_low(out, 0, marks::SHORT_NULL, 2);
         }
         Family::NotCarried => {}
     }
@@ -94,7 +88,7 @@ fn fill_plp(k: ContentKind, s: &[u8], out: &mut [u8])
     ensures { λ _. ⌜ gives (now (out .exit)) ≡ inForm true (encoded (contentKindTold k) (now (s .entry))) ⌝ }
 {
     let end = out.len() - 4;
-    wire::inner::put_low(out, 0, PLP_UNKNOWN, 8);
+    wire::inner::put_low(out, 0, marks::PLP_UNKNOWN, 8);
     if end == 8 {
         wire::inner::put_low(out, 8, 0, 4);
         return;

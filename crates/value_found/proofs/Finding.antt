@@ -4,14 +4,13 @@
 -- Assumes nothing.
 use mathlib.Core.Path.{_≡_, refl, ap, sym, _∙_, subst}
 use mathlib.Core.Bool.{Bool, true, false}
-use mathlib.Core.List.{List, [], _++_, append-nil}
+use mathlib.Core.List.{List, [], _++_}
 use mathlib.Core.Option.{Option, none, some}
 use Prim.Native.Nat.{ℕ, _+_, _-_, _≤_}
 use native.Mathlib.Omega.{arith}
 use lib.Dec.{ltb}
-use lib.ListN.{length, take, drop, length-drop, drop-of-length-le, take-append-drop}
+use lib.ListN.{length, take, drop, length-drop, take-append-drop}
 use lib.Seq.{length-take-le}
-use borrow.Rule.Slice.PartMut.{putMid, postOf}
 use borrow.Author.Tests.{le-ltb}
 use Rattle.lists.specs.Pick.{pick}
 use Rattle.format.specs.Answer.{Refusal, room, Read, took, stops, further, mapRead, fittedRead, roomAfterRead}
@@ -23,12 +22,6 @@ use Rattle.format.specs.Found as F
 use Rattle.plp_join.specs.declared.Joined.{Joined}
 use Rattle.plp_join.specs.Told.{counted, joinedTold, joinIn}
 use Rattle.value_found.specs.Told.{contentFound, behind, roomBehind}
-
--- a part of the room from a place on, lent and back
-pub lent-rest : (out ys : List ℕ) (o : ℕ) → putMid o (length out - o) out ys ≡ take o out ++ ys
-lent-rest out ys o =
-    let z : postOf o (length out - o) out ≡ [] = drop-of-length-le (drop o out) {i = length out - o} (simp length-drop (omega arith)) in
-    simp (z, append-nil)
 
 -- found content, by its count in the room
 abbrev pub foundCounted : ContentKind → ℕ → Option ℕ → F.Found

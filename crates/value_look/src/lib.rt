@@ -22,9 +22,7 @@ use value_kind::kinds::Kind;
 use value_kind::kinds::Listed;
 use value_size::content;
 use wire::Refusal;
-
-// The two length bytes of a short null.
-const SHORT_NULL: usize = 0xFFFF;
+use wire::marks;
 
 // A null of so many bytes; a kind and where its bytes start; content of a kind, where it starts and
 // how many bytes it has; PLP content; or a refusal. Places count from the value's first byte.
@@ -96,7 +94,7 @@ fn short(k: ContentKind, declared: u32, rest: &[u8]) -> Seen
         return Seen::Refused(Refusal::Missing);
     }
     let n = wire::inner::low_at(rest, 0, 2) as usize;
-    if n == SHORT_NULL {
+    if n == marks::SHORT_NULL as usize {
         return Seen::Null(2);
     }
     if (declared as usize) < n {

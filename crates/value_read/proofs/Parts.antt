@@ -5,17 +5,16 @@ use mathlib.Core.Path.{_≡_, refl, sym, _∙_}
 use mathlib.Core.Bool.{Bool, true, false}
 use mathlib.Core.List.{List}
 use Prim.Native.Nat.{ℕ, _+_}
-use lib.Dec.{ltb}
 use lib.ListN.{length}
 use Rattle.lists.specs.Pick.{pick}
 use Rattle.lists.proofs.Split.{clash}
-use Rattle.format.specs.Answer.{room, Read, took, stops, mapRead, readAt, fittedRead}
+use Rattle.format.specs.Answer.{room, took, mapRead, readAt}
 use Rattle.format.specs.Descriptor as D
 use Rattle.format.specs.Value.{Value, ContentKind, readValue, contentOf, isPlp, copiedOut}
 use Rattle.format.specs.Found as F
 use Rattle.format.specs.Found.{handedBack}
-use Rattle.format.proofs.Place.{past, map-took}
-use Rattle.format.proofs.Found.{input-handed}
+use Rattle.format.proofs.Place.{map-took}
+use Rattle.format.proofs.Found.{input-handed, read-fits}
 use Rattle.wire.specs.declared.Cursor.{Cursor}
 use Rattle.column_type.specs.declared.Column.{Column}
 use Rattle.column_type.specs.Told.{columnTold}
@@ -26,12 +25,6 @@ use Rattle.value_found.specs.declared.ValueRead.the-variants as R
 use Rattle.value_found.specs.Told.{contentFound}
 use Rattle.value_read.specs.Told.{readOut, shortContent}
 use Rattle.value_read.proofs.Decided.{ReadsValue}
-
--- what was read with a room was read
-read-fits : (copied : Value → List ℕ) (size : ℕ) (r : Read Value) (v : Value) (n : ℕ) → fittedRead copied r size ≡ took v n → r ≡ took v n
-unfolding fittedRead
-read-fits copied size (took x m) v n h = past (ltb size (length (copied x))) room (took x m) v n h .1
-read-fits copied size (stops e) v n h = h
 
 module _ (d : D.Column) (s : List ℕ) (at start count : ℕ) where
   -- a part of the input names no part of the room

@@ -17,11 +17,7 @@ use value_kind::family::ContentKind;
 use value_kind::family::Family;
 use wire::Refusal;
 use wire::Wrote;
-
-// The declared length that says PLP.
-pub const PLP_MARK: u32 = 65535;
-// How many bytes PLP content may have under a type.
-const PLP_BOUND: u32 = 65535;
+use wire::marks;
 
 // The content bytes: binary as it is, a string in UTF-16LE.
 fn encoded(k: ContentKind, s: &[u8]) -> Wrote
@@ -78,7 +74,7 @@ pub fn framed_span(k: ContentKind, p: Span, buffer: &[u8], head: u8, plp: bool, 
 pub fn is_plp(declared: u32) -> bool
     ensures { λ r. ⌜ r ≡ eqb declared plpMark ⌝ }
 {
-    if declared == PLP_MARK {
+    if declared == marks::PLP_MARK {
         return true;
     }
     false
@@ -89,7 +85,7 @@ fn content_bound(declared: u32) -> u32
     ensures { λ r. ⌜ r ≡ contentBound declared ⌝ }
 {
     if is_plp(declared) {
-        return PLP_BOUND;
+        return marks::PLP_BOUND;
     }
     declared
 }

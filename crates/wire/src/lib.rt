@@ -1,6 +1,7 @@
 // What every layer reads and writes with: the refusals, the cursor, numbers over the width, and the
 // GUID's two orders.
 pub mod inner;
+pub mod marks;
 
 ghost use mathlib.Core.Path.{_≡_};
 ghost use Prim.Native.Nat.{_+_, _^_};

@@ -4,13 +4,13 @@ use mathlib.Core.Path.{_≡_, sym, ap, _∙_}
 use mathlib.Core.Bool.{true}
 use mathlib.Core.List.{_++_}
 use lib.ListN.{take}
-use Rattle.lists.proofs.Lent.{rest-is}
+use Rattle.lists.proofs.Lent.{rest-is, lent-rest}
 use Rattle.format.specs.Answer.{mapRead}
 use Rattle.format.specs.Descriptor.{Column}
 use Rattle.format.specs.Plp.{readPlp}
 use Rattle.format.specs.Value.{isText, contentValue, isPlp}
 use Rattle.value_kind.specs.Told.{contentKindTold}
-use Rattle.value_found.proofs.Finding.{joinTold, same-found, said, lent-rest, Answers, joins-lent}
+use Rattle.value_found.proofs.Finding.{joinTold, same-found, said, Answers, joins-lent}
 use borrow.Author.Needs.{needs}
 use Rattle.value_found.proofs.inner.join_value.Statement.{statement}
 use Rattle.value_found.proofs.inner.join_value.Tie as tie
