@@ -1,7 +1,8 @@
 """Whether the lists are whole: docs/PUBLIC.md's calls, types and must-fail edits, and the ops of the cases.
 
 - The public list is what crates/morelquilt hands on, and each call's row says where it is proved,
-  what its contract is, and at least two must-fail edits. Its words are the contract's own.
+  what its contract is, and at least two must-fail edits that are wrong programs: edits of code, not of
+  a promise or a definition. Its words are the contract's own.
 - Every other `pub fn` of a library stands under "Not public", by its path, its module or its crate.
 - Every must-fail edit changes lines that are there.
 - Every op of the cases is answered by the replay program (cases/ops.txt) or still to come
@@ -18,9 +19,10 @@ from sources import Sources
 
 FACADE = 'morelquilt'
 COLUMNS = ['Call', 'Proved as', 'Contract', 'Definition', 'Decided by', 'Must-fail edits']
-# Calls that have fewer than two must-fail edits. The list can only shrink: one that has two by now
-# is a fault too.
-EDITS_OWED = []
+# Calls without two wrong programs among their edits. Each is one expression proved by hand along the
+# compiled code, where other code is refused for its shape whatever it computes; their edits change the
+# promise. One that has two wrong programs by now is a fault too.
+PROMISE_ONLY = ['morelquilt::walk_object', 'morelquilt::walk_place', 'morelquilt::walk_standing']
 
 
 def quoted(text):
@@ -39,8 +41,8 @@ class Public:
                 self.rows.append(cells)
             elif line.startswith('| Call '):
                 self.titles.append(cells)
-        plain = '\n'.join(line for line in front.splitlines() if not line.startswith('|'))
-        self.types = {word for word in quoted(plain) if re.fullmatch(FACADE + r'::[A-Z]\w*', word)}
+        self.plain = ' '.join(line for line in front.splitlines() if not line.startswith('|'))
+        self.types = {word for word in quoted(self.plain) if re.fullmatch(FACADE + r'::[A-Z]\w*', word)}
         self.hidden = {word for word in quoted(behind) if '::' in word}
         self.hidden |= {word[len('crates/'):] for word in quoted(behind) if word.startswith('crates/')}
 
@@ -55,7 +57,27 @@ def dependencies(root):
     return uses
 
 
-def row_faults(cells, exported, sources, uses):
+def edit_fields(path):
+    """A must-fail edit: its file, and the texts that it replaces."""
+    fields = [line.partition(': ') for line in path.read_text().splitlines() if not line.startswith('#')]
+    file = next((path.parent.parent / text for key, _, text in fields if key == 'file'), None)
+    return file, [text for key, _, text in fields if key == 'old']
+
+
+def wrong_programs(root):
+    """The edits of code: in a source, and in no line of a contract."""
+    found = set()
+    for path in root.glob('crates/*/must-fail/*.edit'):
+        file, olds = edit_fields(path)
+        if file is None or file.suffix != '.rt' or not file.is_file():
+            continue
+        lines = [line for line in file.read_text().splitlines() if any(old in line for old in olds)]
+        if not any('⌜' in line or line.startswith('ghost ') for line in lines):
+            found.add('%s!%s' % (path.parent.parent.name, path.stem))
+    return found
+
+
+def row_faults(cells, exported, sources, uses, wrong):
     """What is wrong with the row of one call."""
     if len(cells) != len(COLUMNS):
         yield 'a row of %d cells' % len(cells)
@@ -87,8 +109,11 @@ def row_faults(cells, exported, sources, uses):
         crate = edit.partition('!')[0]
         if crate not in {item.path.partition('::')[0]} | uses[item.path.partition('::')[0]]:
             yield '%s does not use the crate of %s' % (call, edit)
-    if (len(edits) < 2) != (call in EDITS_OWED):
-        yield '%s has %d must-fail edits' % (call, len(edits)) + (', and is listed as owed' if len(edits) > 1 else '')
+    if len(edits) < 2:
+        yield '%s has %d must-fail edits' % (call, len(edits))
+    programs = len(edits & wrong)
+    if (programs < 2) != (call in PROMISE_ONLY):
+        yield '%s has %d wrong programs among its edits' % (call, programs) + (', and is listed as having none' if programs > 1 else '')
 
 
 def public_faults(root, sources):
@@ -106,15 +131,19 @@ def public_faults(root, sources):
     for call, times in collections.Counter(listed).items():
         if times > 1:
             yield '%s is listed twice' % call
+    wrong = wrong_programs(root)
     for cells in page.rows:
         if quoted(cells[0])[0] in calls:
-            yield from row_faults(cells, exported, sources, uses)
+            yield from row_faults(cells, exported, sources, uses, wrong)
+    named = {word for cells in page.rows for word in quoted(cells[-1]) if '!' in word}
+    if 'Of the %d edits named, %d are wrong programs' % (len(named), len(named & wrong)) not in page.plain:
+        yield 'of the %d edits named, %d are wrong programs, and the page does not say so' % (len(named), len(named & wrong))
+    for call in PROMISE_ONLY:
+        if '`%s`' % call not in page.plain:
+            yield '%s has no wrong program among its edits, and the page does not say so' % call
     types = {name for name, item in exported.items() if item.kind == 'type'}
     for name in sorted(types ^ page.types):
         yield 'the type %s is %s' % (name, 'not listed' if name in types else 'listed, and not handed on')
-    for call in EDITS_OWED:
-        if call not in calls:
-            yield '%s is owed edits, and is no public call' % call
     yield from hidden_faults(page, sources, {exported[call].path for call in calls})
 
 
@@ -140,9 +169,7 @@ def hidden_faults(page, sources, public):
 def edit_faults(root):
     """A must-fail edit changes lines that are there: each `old:` stands once in its file."""
     for path in sorted(root.glob('crates/*/must-fail/*.edit')):
-        fields = [line.partition(': ') for line in path.read_text().splitlines() if not line.startswith('#')]
-        file = next((path.parent.parent / text for key, _, text in fields if key == 'file'), None)
-        olds = [text for key, _, text in fields if key == 'old']
+        file, olds = edit_fields(path)
         if file is None or not file.is_file() or not olds:
             yield '%s names no file, or no line of it' % path.relative_to(root)
             continue
