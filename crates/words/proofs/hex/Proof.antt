@@ -1,9 +1,9 @@
--- `replay_say::say::digits` is safe and ends: each chunk ends further on. Assumes nothing.
+-- `words::hex` is safe and ends: each chunk ends further on. Assumes nothing.
 use Prim.Native.Nat.{_≤_, _-_}
 use lib.ListN.{length}
 use borrow.Author.Needs.{needs}
-use Rattle.replay_say.proofs.say.digits.Statement.{statement}
-use Rattle.replay_say.proofs.say.digits.Tie as tie
+use Rattle.words.proofs.hex.Statement.{statement}
+use Rattle.words.proofs.hex.Tie as tie
 
 abbrev Inv-loop : tie.InvT-loop
 Inv-loop s at₀ at = at ≤ length s
@@ -38,8 +38,8 @@ loop-again c = search needs
 returns : tie.Need-returns Inv-loop μ-loop
 returns c = search needs
 
-pub digits-spec : {M : Type 1} → statement M
-digits-spec =
+pub hex-spec : {M : Type 1} → statement M
+hex-spec =
     tie.close
     (tie.spec
     Inv-loop

@@ -1,10 +1,10 @@
--- `replay_say::say::chunk` is safe: what was spelled stands inside the text. Assumes nothing.
+-- `words::chunk` is safe: what was spelled stands inside the digits. Assumes nothing.
 use mathlib.Core.Path.{sym}
 use native.Mathlib.Omega.{arith}
 use lib.Seq.{length-take-le}
 use borrow.Author.Needs.{needs}
-use Rattle.replay_say.proofs.say.chunk.Statement.{statement}
-use Rattle.replay_say.proofs.say.chunk.Tie as tie
+use Rattle.words.proofs.chunk.Statement.{statement}
+use Rattle.words.proofs.chunk.Tie as tie
 
 slice-aggregate-spell : tie.Need-slice-aggregate-spell
 slice-aggregate-spell c = search needs
@@ -12,8 +12,8 @@ slice-aggregate-spell c = search needs
 spell-requires : tie.Need-spell-requires
 spell-requires c κs = search needs
 
-array-share-prefix-text : tie.Need-array-share-prefix-text
-array-share-prefix-text c = search needs
+array-share-prefix-digits : tie.Need-array-share-prefix-digits
+array-share-prefix-digits c = search needs
 
 slice-aggregate-write-all : tie.Need-slice-aggregate-write-all
 slice-aggregate-write-all c =
@@ -33,7 +33,7 @@ chunk-spec =
     (tie.spec
     slice-aggregate-spell
     spell-requires
-    array-share-prefix-text
+    array-share-prefix-digits
     slice-aggregate-write-all
     write-all-requires
     returns)

@@ -1,11 +1,11 @@
--- `replay_say::say::spell` is safe and ends: the place in the text stays inside it. Assumes nothing.
+-- `words::spell` is safe and ends: the place in the text stays inside it. Assumes nothing.
 use Prim.Native.Nat.{_≤_, _-_}
 use mathlib.Core.Path.{_≡_}
 use native.Mathlib.Omega.{arith}
 use lib.ListN.{length, length-set}
 use borrow.Author.Needs.{needs}
-use Rattle.replay_say.proofs.say.spell.Statement.{statement}
-use Rattle.replay_say.proofs.say.spell.Tie as tie
+use Rattle.words.proofs.spell.Statement.{statement}
+use Rattle.words.proofs.spell.Tie as tie
 
 abbrev Inv-loop : tie.InvT-loop
 Inv-loop s text₀ i₀ o₀ text i o = (i ≤ length s) × (o ≤ length text₀) × (length text ≡ length text₀)
