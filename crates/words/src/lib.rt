@@ -104,22 +104,40 @@ fn chunk(s: &[u8]) {
     io::write_all(STDOUT_FILENO, &digits[..n]);
 }
 
-fn end_of_chunk(s: &[u8], at: usize) -> usize
-    requires { ⌜ at < length (now s) ⌝ }
+// Where a part of at most so many bytes ends.
+fn end_of_part(s: &[u8], at: usize, most: usize) -> usize
+    requires { ⌜ (at < length (now s)) × (0 < most) ⌝ }
     ensures { λ r. ⌜ (at < r) × (r ≤ length (now (s .entry))) ⌝ }
 {
-    if s.len() - at < 2048 {
+    if s.len() - at < most {
         return s.len();
     }
-    at + 2048
+    at + most
 }
 
 // Bytes, two digits each, a chunk at a time.
 pub fn hex(s: &[u8]) {
     let mut at = 0;
     while at < s.len() {
-        let end = end_of_chunk(s, at);
+        let end = end_of_part(s, at, 2048);
         chunk(&s[at..end]);
+        at = end;
+    }
+}
+
+// One line of bytes.
+fn line(s: &[u8]) {
+    text(b"  ");
+    chunk(s);
+    text(b"\n");
+}
+
+// Bytes, two digits each, 32 in a line.
+pub fn hex_lines(s: &[u8]) {
+    let mut at = 0;
+    while at < s.len() {
+        let end = end_of_part(s, at, 32);
+        line(&s[at..end]);
         at = end;
     }
 }

@@ -14,8 +14,8 @@ abbrev μ-loop : tie.MeasureT-loop
 loop-holds : tie.Need-loop-holds Inv-loop μ-loop
 loop-holds c = search needs
 
-end-of-chunk-requires : tie.Need-end-of-chunk-requires Inv-loop μ-loop
-end-of-chunk-requires c κs = search needs
+end-of-part-requires : tie.Need-end-of-part-requires Inv-loop μ-loop
+end-of-part-requires c κs = search needs
 
 sub-chunk : tie.Need-sub-chunk Inv-loop μ-loop
 sub-chunk c = search needs
@@ -45,7 +45,7 @@ hex-spec =
     Inv-loop
     μ-loop
     loop-holds
-    end-of-chunk-requires
+    end-of-part-requires
     sub-chunk
     part-chunk-start
     part-chunk-end
