@@ -1,5 +1,6 @@
 -- `held::held_row_size` meets its contract: both counts, then the call that lends. Assumes nothing.
 use mathlib.Core.Path.{sym, _∙_}
+use native.Mathlib.Omega.{arith}
 use borrow.Author.Needs.{needs}
 use Rattle.held.specs.Held.{counted, firstRow}
 use Rattle.held.proofs.Counted.{few, both-few, many-columns, many-values}
@@ -33,7 +34,10 @@ size-lent-requires c κs =
     let asked2 = c .before in
     let columns = asked2 .before in
     let asked = columns .before in
-    (few _ (sym (asked .too-many .ensures) ∙ columns .if1 .left), few _ (sym (asked2 .too-many2 .ensures) ∙ c .if2 .left))
+    let a = asked .before .before .args in
+    let few-columns = few (a .count) (sym (asked .too-many .ensures) ∙ columns .if1 .left) in
+    let few-values = few (a .given) (sym (asked2 .too-many2 .ensures) ∙ c .if2 .left) in
+    (omega (arith, few-columns), omega (arith, few-values))
 
 returns-3 : tie.Need-returns-3
 returns-3 c =

@@ -1,5 +1,6 @@
 -- `held::write_held_row` meets its contract: both counts, then the call that lends. Assumes nothing.
 use mathlib.Core.Path.{sym, _∙_}
+use native.Mathlib.Omega.{arith}
 use borrow.Author.Needs.{needs}
 use Rattle.format.specs.Answer.{rule}
 use Rattle.wire.proofs.Writing.{refused-before}
@@ -37,7 +38,10 @@ write-lent-requires c κs =
     let asked2 = values .before in
     let columns = asked2 .before in
     let asked = columns .before in
-    (few _ (sym (asked .too-many .ensures) ∙ columns .if1 .left), few _ (sym (asked2 .too-many2 .ensures) ∙ values .if2 .left))
+    let a = asked .before .before .before .args in
+    let few-columns = few (a .count) (sym (asked .too-many .ensures) ∙ columns .if1 .left) in
+    let few-values = few (a .given) (sym (asked2 .too-many2 .ensures) ∙ values .if2 .left) in
+    (omega (arith, few-columns), omega (arith, few-values))
 
 same-length : tie.Need-same-length
 same-length c = search needs
