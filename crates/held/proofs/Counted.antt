@@ -20,6 +20,7 @@ pub many-columns : (count : ℕ) (a : Answer (List ℕ)) → tooMany count ≡ t
 unfolding wrote
 many-columns count a h = rw h
 
-pub many-values : (count given : ℕ) (a : Answer (List ℕ)) → tooMany count ≡ false → tooMany given ≡ true → refuses rule ≡ wrote (counted count (counted given a))
+pub many-values : (count given : ℕ) (a : Answer (List ℕ)) → tooMany count ≡ false → tooMany given ≡ true
+    → refuses rule ≡ wrote (counted count (counted given a))
 unfolding wrote
 many-values count given a h k = rw (h, k)
