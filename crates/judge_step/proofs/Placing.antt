@@ -8,7 +8,7 @@ use mathlib.Core.Option.{Option}
 use Prim.Native.Nat.{ℕ, _+_, _≤_}
 use native.Mathlib.Omega.{arith}
 use lib.ListN.{length, drop, length-drop}
-use Rattle.format.specs.Answer.{Refusal, Read, took, stops, rule, further, mapRead, readAt}
+use Rattle.format.specs.Answer.{Read, took, stops, rule, further, mapRead, readAt}
 use Rattle.format.specs.Descriptor as D
 use Rattle.format.specs.Descriptor.{keepsRule}
 use Rattle.format.specs.Value.{Value, Family, familyOf, readFamily, readValue, copiedOut, encode}
@@ -27,7 +27,8 @@ module _ (c : D.Column) (s : List ℕ) (at : ℕ) (h : at ≤ length s) where
   rule-kept k declared f rest l g r = at-inside (readValue c) s at h ∙ rw (k, l, ← g, ← r)
 
 -- a value of a column needs what it needs under the column's family and declared length
-needs-same : (c : D.Column) (v : Value) (declared : ℕ) (f : Option Family) → c .length ≡ declared → f ≡ familyOf (c .type) → needsIn declared f v ≡ needsValue c v
+needs-same : (c : D.Column) (v : Value) (declared : ℕ) (f : Option Family) → c .length ≡ declared → f ≡ familyOf (c .type)
+    → needsIn declared f v ≡ needsValue c v
 unfolding copiedOut encode
 needs-same c v declared f l g = rw (← l, g)
 

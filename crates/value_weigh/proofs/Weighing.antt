@@ -14,10 +14,10 @@ use Rattle.lists.specs.Pick.{pick}
 use Rattle.lists.proofs.Split.{split, clash}
 use Rattle.format.specs.Answer.{Refusal, Read, took, stops, mapRead, thenRead, long, sequence, notCarried}
 use Rattle.format.specs.Number.{lowBytes, readByte, readLow, readBytes}
-use Rattle.format.specs.Scalar.{Kind, Scalar, width, kindOf, scalarOf, scalarBytes, readScalar}
+use Rattle.format.specs.Scalar.{Kind, Scalar, width, scalarOf, scalarBytes, readScalar}
 use Rattle.format.specs.Plp.{plpMark, plpBound, isOdd, readPlp, plpCopied, plpBytes}
 use Rattle.format.specs.Value.{Value, ContentKind, Family, fixedWidth, lengthByte, content, isText, contentValue, ofWidth, readWidth, readLengthByte}
-use Rattle.format.specs.Value.{shortNull, readShort, readFamily, contentOf, encodeFamily}
+use Rattle.format.specs.Value.{shortNull, readShort, readFamily, encodeFamily}
 use Rattle.format.proofs.Place.{past, no-took, map-took, then-took}
 use Rattle.format.proofs.Plain.{byte-took, low-took, bytes-took}
 use Rattle.format.proofs.Scalar.{length-guid}
@@ -73,7 +73,8 @@ module _ (declared : ℕ) (s : List ℕ) (v : Value) (n : ℕ) where
   fixed-size : (k : Kind) → readFamily declared (some (fixedWidth k)) s ≡ took v n → Sized (some (fixedWidth k))
   fixed-size k h = let p = map-took Value.scalar (readScalar k s) v n h in rw (← p .2) (scalar-size k s (p .0) n (p .1))
 
-  width-size : (w : ℕ) (o : Option Kind) (rest : List ℕ) (m : ℕ) → readWidth declared w o rest ≡ took v m → 1 + m ≡ n → (ks : List Kind) → Sized (some (lengthByte ks))
+  width-size : (w : ℕ) (o : Option Kind) (rest : List ℕ) (m : ℕ) → readWidth declared w o rest ≡ took v m → 1 + m ≡ n → (ks : List Kind)
+      → Sized (some (lengthByte ks))
   width-size w none rest m h e ks = no-took sequence v m h
   width-size w (some k) rest m h e ks =
       let p = past (ltb declared w) long (mapRead Value.scalar (readScalar k rest)) v m h in

@@ -1,12 +1,8 @@
 -- `value_weigh::weigh` meets its contract: what was seen of the rest, weighed; all but PLP content has one form. Assumes nothing.
-use mathlib.Core.Path.{_≡_, refl, sym, ap, _∙_}
-use mathlib.Core.List.{List}
-use Prim.Native.Nat.{ℕ, _+_}
+use mathlib.Core.Path.{_≡_, sym, ap, _∙_}
 use native.Mathlib.Omega.{arith}
-use Rattle.format.specs.Answer.{Read, took}
-use Rattle.format.specs.Scalar.{scalarOf}
-use Rattle.format.specs.Value.{Value, readFamily}
-use Rattle.value_kind.specs.Told.{kindTold, contentKindTold, familyTold}
+use Rattle.format.specs.Value.{readFamily}
+use Rattle.value_kind.specs.Told.{contentKindTold, familyTold}
 use Rattle.value_look.specs.declared.Seen.{Seen}
 use Rattle.value_look.specs.Told.{seenTold, Lies}
 use Rattle.value_weigh.proofs.Weighing.{single-content, single-weighs, stops-weighs, plp-weighs}

@@ -3,16 +3,16 @@
 use mathlib.Core.Path.{_≡_, refl, sym, ap, _∙_}
 use mathlib.Core.Bool.{true}
 use mathlib.Core.List.{List}
-use Prim.Native.Nat.{ℕ, _+_, _≤_}
+use Prim.Native.Nat.{ℕ, _+_}
 use native.Mathlib.Omega.{arith}
-use lib.ListN.{length, drop, length-drop}
+use lib.ListN.{length}
 use Rattle.lists.proofs.Lent.{rest-is}
 use Rattle.format.specs.Answer.{took}
 use Rattle.format.specs.Descriptor.{keepsRule}
 use Rattle.column_type.specs.Told.{columnTold}
 use Rattle.value_kind.proofs.ColumnLaws.{length-fits}
 use Rattle.value_weigh.specs.declared.Weighed.{Weighed}
-use Rattle.value_weigh.specs.Told.{Needs, weighedTold, Within}
+use Rattle.value_weigh.specs.Told.{Needs, weighedTold}
 use Rattle.judge_step.specs.Steps.{plusNeeds, judgeOn, Inside}
 use Rattle.judge_step.proofs.Placing.{onWeighed, judged-rule, judged-weighed, inside-more}
 use borrow.Author.Needs.{needs}
