@@ -1,5 +1,4 @@
 -- What this crate's declared types tell, in the words of `format`: what a row needs, and where it ends.
-use Prim.Native.Nat.{ℕ}
 use mathlib.Core.List.{List}
 use Rattle.format.specs.Answer.{Read, took, stops}
 use Rattle.format.specs.Descriptor as D

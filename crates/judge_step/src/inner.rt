@@ -42,11 +42,11 @@ pub fn turns(state: RowJudged, columns: usize) -> usize
 }
 
 // One value more, behind those before it.
-fn behind(c: Column, s: &[u8], before: RowNeeds) -> RowJudged
-    requires { ⌜ Inside (length (now s)) (rowJudgedTold (RowJudged.Row before)) ⌝ }
-    ensures { λ r. ⌜ ((b : List ℕ) → rowJudgedTold r ≡ judgeOn (columnTold b c) (now (s .entry)) (rowJudgedTold (RowJudged.Row before))) ⌝ }
+fn behind(c: Column, s: &[u8], row: RowNeeds) -> RowJudged
+    requires { ⌜ Inside (length (now s)) (rowJudgedTold (RowJudged.Row row)) ⌝ }
+    ensures { λ r. ⌜ ((b : List ℕ) → rowJudgedTold r ≡ judgeOn (columnTold b c) (now (s .entry)) (rowJudgedTold (RowJudged.Row row))) × Inside (length (now (s .entry))) (rowJudgedTold r) ⌝ }
 {
-    let at = before.next.at;
+    let at = row.next.at;
     if column_rule::keeps_rule(c) {
         let ty = c.ty;
         let weighed = value_weigh::weigh(family::family_of(ty), c.length as u32, &s[at..]);
@@ -54,8 +54,8 @@ fn behind(c: Column, s: &[u8], before: RowNeeds) -> RowJudged
             Weighed::Fine(n, joined, normal) => {
                 return RowJudged::Row(RowNeeds {
                     next: Cursor { at: at + n },
-                    joined: before.joined + joined,
-                    normal: before.normal + normal,
+                    joined: row.joined + joined,
+                    normal: row.normal + normal,
                 });
             }
             Weighed::Refused(e) => {
@@ -69,10 +69,10 @@ fn behind(c: Column, s: &[u8], before: RowNeeds) -> RowJudged
 // One column's turn. A refused row stays refused.
 pub fn judge_on(c: Column, s: &[u8], state: RowJudged) -> RowJudged
     requires { ⌜ Inside (length (now s)) (rowJudgedTold state) ⌝ }
-    ensures { λ r. ⌜ ((b : List ℕ) → rowJudgedTold r ≡ judgeOn (columnTold b c) (now (s .entry)) (rowJudgedTold state)) ⌝ }
+    ensures { λ r. ⌜ ((b : List ℕ) → rowJudgedTold r ≡ judgeOn (columnTold b c) (now (s .entry)) (rowJudgedTold state)) × Inside (length (now (s .entry))) (rowJudgedTold r) ⌝ }
 {
     match state {
-        RowJudged::Row(before) => behind(c, s, before),
+        RowJudged::Row(row) => behind(c, s, row),
         RowJudged::Refused(e) => RowJudged::Refused(e),
     }
 }

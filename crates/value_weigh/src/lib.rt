@@ -1,7 +1,6 @@
 // What one value in the rest of a row weighs: how many bytes it takes, how many content bytes
 // reading copies out, and how many its normal form has. No value is made.
 ghost use mathlib.Core.Path.{_≡_};
-ghost use mathlib.Core.Option.{some};
 ghost use Rattle.format.specs.Answer.{mapRead};
 ghost use Rattle.format.specs.Plp.{readPlp};
 ghost use Rattle.format.specs.Value.{isText, readFamily};
