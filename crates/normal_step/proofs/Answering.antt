@@ -1,36 +1,27 @@
 -- What the call answers of a row, by what was read of it; and a row taken apart from the left.
 -- Why it holds: the normal form is that of the values that were read, and the second reader goes on at the first one's next place.
 -- Assumes nothing.
-use mathlib.Core.Path.{_≡_, refl, sym, ap, _∙_, subst}
+use mathlib.Core.Path.{_≡_, refl, sym, ap, _∙_}
 use mathlib.Core.Bool.{Bool, true, false}
-use mathlib.Core.List.{List, [], _∷_, _++_, append-assoc, append-nil}
-use Prim.Native.Nat.{ℕ, _+_, _-_, _<_, _≤_, zero-le}
-use native.Mathlib.Nat.{add-zero}
-use native.Mathlib.Omega.{arith}
+use mathlib.Core.List.{List, [], _∷_}
+use Prim.Native.Nat.{ℕ, _+_, _≤_}
 use lib.Dec.{ltb}
-use lib.ListN.{length, getD, take, drop, length-append}
-use lib.Seq.{drop-drop}
+use lib.ListN.{length, drop}
 use borrow.Author.Tests.{ltb-false}
 use Rattle.lists.specs.Pick.{pick}
-use Rattle.lists.specs.Put.{putAt}
-use Rattle.format.specs.Answer.{Refusal, Read, took, stops, room, rule, mapRead, readAt, fittedRead, roomAfterRead}
+use Rattle.format.specs.Answer.{Refusal, Read, took, stops, room, rule, mapRead, readAt, fittedRead}
 use Rattle.format.specs.Descriptor as D
 use Rattle.format.specs.Value.{Value, readValue, encode}
 use Rattle.format.specs.Row.{maxColumns, consRead, readValues, readRow}
 use Rattle.format.specs.Normal.{encodeRow, normal}
-use Rattle.format.proofs.Place.{past, no-took, took-at, at-took, at-then, at-then-stops, at-map-took, at-map-stops, next-inside, map-took}
+use Rattle.format.proofs.Place.{past, no-took, took-at, at-took, at-then, at-then-stops, at-map-took, at-map-stops, next-inside}
 use Rattle.format.proofs.MoreReaders.{stream-value}
 use Rattle.column_type.specs.declared.Column.{Column}
-use Rattle.column_type.specs.Told.{columnTold}
-use Rattle.columns.specs.None.{noColumn}
 use Rattle.columns.specs.Told.{columnsTold}
-use Rattle.columns.proofs.Taken.{left-at, none-left}
 use Rattle.value_weigh.specs.Told.{Needs}
 use Rattle.judge_step.specs.Told.{needsOf}
-use Rattle.value_normal.specs.declared.Run.{Run}
-use Rattle.value_normal.specs.Runs.{held, shown, runOn, RunFits, RunGrows, Grows}
-use Rattle.value_normal.proofs.Growing.{held-length}
-use Rattle.normal_step.specs.Steps.{fitNormal, turnsOf, openOf, normalValue}
+use Rattle.normal_step.specs.Steps.{fitNormal, normalValue}
+use Rattle.normal_step.proofs.Names.{at-normal}
 
 -- ---- the answer
 
@@ -90,6 +81,10 @@ module _ (cs : List D.Column) (s : List ℕ) (at size : ℕ) where
             fits = rw (← b) (ltb-false size (length (encodeRow cs vs)) (p .0));
           }
       go (stops x) e = no-took x j n (sym (asked-stops x e) ∙ h)
+
+-- the columns' names may be parts of any buffer
+pub any-names : (ys : List Column) (s : List ℕ) (at size : ℕ) (b : List ℕ) → asked (columnsTold [] ys) s at size ≡ asked (columnsTold b ys) s at size
+any-names ys s at size b = ap (λ (r : Read (List ℕ)). fittedRead (λ (bytes : List ℕ). bytes) r size) (sym (at-normal b ys s at))
 
 -- ---- the first of the columns that are left
 

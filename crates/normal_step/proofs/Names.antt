@@ -6,8 +6,9 @@ use mathlib.Core.Bool.{Bool, not}
 use mathlib.Core.List.{List, [], _∷_}
 use Prim.Native.Nat.{ℕ}
 use lib.Dec.{ltb}
-use lib.ListN.{length, length-map}
-use Rattle.format.specs.Answer.{Read, took, stops, rule, stopIf, thenRead, mapRead}
+use lib.ListN.{length, drop, length-map}
+use Rattle.lists.specs.Pick.{pick}
+use Rattle.format.specs.Answer.{Read, took, stops, missing, rule, stopIf, further, thenRead, mapRead, readAt}
 use Rattle.format.specs.Descriptor as D
 use Rattle.format.specs.Descriptor.{schemaFits, keepsRule}
 use Rattle.format.specs.Value.{Value, familyOf, readFamily, readValue, encode}
@@ -68,3 +69,8 @@ module _ (b : List ℕ) where
       go : (r : Read (List Value)) → mapRead (encodeRow (columnsTold b ys)) r ≡ mapRead (encodeRow (columnsTold [] ys)) r
       go (took vs n) = ap (λ (x : List ℕ). took x n) (same-encode ys vs)
       go (stops e) = refl
+
+  -- at a place of the input
+  pub at-normal : (ys : List Column) (s : List ℕ) (at : ℕ) → readAt (normal (columnsTold b ys)) s at ≡ readAt (normal (columnsTold [] ys)) s at
+  unfolding readAt
+  at-normal ys s at = ap (λ (r : Read (List ℕ)). pick (ltb (length s) at) (stops missing) (further at r)) (same-normal ys (drop at s))
