@@ -7,7 +7,7 @@ use Prim.Native.Nat.{ℕ}
 use lib.Dec.{ltb}
 use lib.ListN.{length}
 use Rattle.lists.specs.Pick.{pick}
-use Rattle.format.specs.Answer.{Read, stops, further, readAt, missing, rule}
+use Rattle.format.specs.Answer.{Refusal, Read, stops, further, mapRead, readAt, fittedRead, roomAfterRead, missing, rule}
 use Rattle.held.specs.Held.{tooMany}
 use Rattle.held_read.specs.Held.{countedRead}
 
@@ -25,3 +25,17 @@ module _ {A : Type 0} (count : ℕ) (reader : List ℕ → Read A) (s : List ℕ
       each : (b : Bool) → _≡_ {A = Read A} (stops (pick b missing rule)) (pick b (stops missing) (further at (stops rule)))
       each true = refl
       each false = refl
+
+-- a refusal that comes before the room is asked, whatever is told of the answer
+refused-read : {A B : Type 0} (tell : A → B) (copied : A → List ℕ) (a : Read A) (r : Refusal) (out : List ℕ) → stops r ≡ a
+    → (stops r ≡ mapRead tell (fittedRead copied a (length out))) × (out ≡ roomAfterRead copied (fittedRead copied a (length out)) out)
+unfolding fittedRead roomAfterRead
+refused-read tell copied a r out h = (rw (← h), rw (← h))
+
+-- so a call that has a room answers a count above the places, and leaves the room as it was
+pub many-leaves : {A B : Type 0} (tell : A → B) (copied : A → List ℕ) (count : ℕ) (reader : List ℕ → Read A) (s : List ℕ) (at : ℕ) (r : Refusal) (out : List ℕ)
+    → tooMany count ≡ true → r ≡ pick (ltb (length s) at) missing rule
+    → (stops r ≡ mapRead tell (fittedRead copied (readAt (countedRead count reader) s at) (length out)))
+    × (out ≡ roomAfterRead copied (fittedRead copied (readAt (countedRead count reader) s at) (length out)) out)
+many-leaves tell copied count reader s at r out h k =
+    refused-read tell copied (readAt (countedRead count reader) s at) r out (rw k (many-read count reader s at h))
