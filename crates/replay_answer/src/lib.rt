@@ -14,6 +14,7 @@ fn in_room(op: u8, frame: &[u8], room: &mut [u8]) {
         0x30 => replay_read::value_read(frame, room),
         0x31 => replay_value::value_write(frame, room),
         0x32 => replay_value::untyped_write(frame, room),
+        0x39 => replay_row::row_write(frame, room),
         0x48 => texts::text_in(frame, room),
         0x49 => texts::text_out(frame, room),
         0x7E => own::self_test(frame, room),

@@ -1,6 +1,5 @@
 pub mod Most
 pub mod Adding
 pub mod Placing
-pub mod Taken
 pub mod Sizing
 pub mod Filling

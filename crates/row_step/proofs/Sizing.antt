@@ -23,7 +23,7 @@ use Rattle.columns.specs.None.{noColumn, noValue}
 use Rattle.columns.specs.Told.{columnsTold, valuesTold}
 use Rattle.row_step.specs.Steps.{startOf, turnsOf, sizeOn, mostOf, Below}
 use Rattle.row_step.proofs.Most.{most}
-use Rattle.row_step.proofs.Taken.{left-at, none-left}
+use Rattle.columns.proofs.Taken.{left-at, none-left}
 
 -- ---- sums of sizes
 

@@ -6,7 +6,7 @@ ghost use mathlib.Core.Bool.{true};
 ghost use Prim.Native.Nat.{_+_, _≤_};
 ghost use lib.ListN.{length};
 ghost use Rattle.format.specs.Descriptor as D;
-ghost use Rattle.format.specs.Value.{isText, readFamily, isPlp};
+ghost use Rattle.format.specs.Value.{readFamily, isPlp};
 ghost use Rattle.value_kind.specs.Told.{contentKindTold, familyTold};
 ghost use Rattle.value_found.specs.Told.{standTold, foundTold, contentFound, valueReadTold, CanonicalFound, CanonicalRead};
 ghost use Rattle.value_found.specs.Told.{plpValue, foundBehind, roomBehind};
@@ -15,6 +15,7 @@ use crate::Stand;
 use crate::ValueRead;
 use plp_join::Joined;
 use value_kind::Span;
+use value_kind::family;
 use value_kind::family::ContentKind;
 use value_kind::family::Family;
 use value_kind::kinds;
@@ -22,23 +23,13 @@ use value_look::Seen;
 use wire::Cursor;
 
 // Content of a kind by where it stands.
-fn content_found(k: ContentKind, p: Stand) -> Found
+pub fn content_found(k: ContentKind, p: Stand) -> Found
     ensures told { λ r. ⌜ foundTold r ≡ contentFound (contentKindTold k) (standTold p) ⌝ }
     ensures canonical { λ r. ⌜ CanonicalFound r ⌝ }
 {
     match k {
         ContentKind::Binary => Found::Binary(p),
         ContentKind::String => Found::String(p),
-    }
-}
-
-// Is an even count asked?
-fn is_text(k: ContentKind) -> bool
-    ensures { λ r. ⌜ r ≡ isText (contentKindTold k) ⌝ }
-{
-    match k {
-        ContentKind::Binary => false,
-        ContentKind::String => true,
     }
 }
 
@@ -49,7 +40,7 @@ fn join_value(k: ContentKind, rest: &[u8], at: usize, copied: usize, out: &mut [
     ensures canonical { λ r. ⌜ CanonicalRead r ⌝ }
     ensures room { λ _. ⌜ ((c : D.Column) → isPlp c ≡ true → now (out .exit) ≡ roomBehind c (plpValue (contentKindTold k) (now (rest .entry))) at copied (now (out .entry))) ⌝ }
 {
-    let text = is_text(k);
+    let text = family::is_text(k);
     let joined = plp_join::inner::join_in(rest, at, text, &mut out[copied..]);
     match joined {
         Joined::Null(next) => ValueRead::Value(Found::Null, next),

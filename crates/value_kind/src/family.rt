@@ -1,6 +1,6 @@
 // The carried types, by the form of their values.
 ghost use mathlib.Core.Path.{_≡_};
-ghost use Rattle.format.specs.Value.{fixedFamily, byteLenFamily, uShortLenFamily, familyOf};
+ghost use Rattle.format.specs.Value.{fixedFamily, byteLenFamily, uShortLenFamily, familyOf, isText};
 ghost use Rattle.column_type.specs.Told.{fixedTold, byteLenTold, uShortLenTold, typeTold};
 ghost use Rattle.value_kind.specs.Told.{familyTold, contentKindTold};
 ghost use Rattle.value_kind.specs.Form.{sameContent};
@@ -38,6 +38,16 @@ pub fn same_content(a: ContentKind, b: ContentKind) -> bool
             ContentKind::Binary => false,
             ContentKind::String => true,
         },
+    }
+}
+
+// Is an even count of content bytes asked?
+pub fn is_text(k: ContentKind) -> bool
+    ensures { λ r. ⌜ r ≡ isText (contentKindTold k) ⌝ }
+{
+    match k {
+        ContentKind::Binary => false,
+        ContentKind::String => true,
     }
 }
 

@@ -30,7 +30,7 @@ fn encoded(k: ContentKind, s: &[u8]) -> Wrote
 }
 
 // Content of n bytes in its form: PLP of none is the two marks alone.
-fn formed(plp: bool, n: u32) -> usize
+pub fn formed(plp: bool, n: u32) -> usize
     ensures { λ r. ⌜ ((c : List ℕ) → length c ≡ n → r ≡ length (formed plp c)) × (r < 4294967312) ⌝ }
 {
     if plp {

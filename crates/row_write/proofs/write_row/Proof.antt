@@ -74,7 +74,7 @@ use Rattle.columns.specs.Told.{columnsTold, valuesTold}
 use Rattle.row_step.specs.Steps.{turnsOf, fitIn, FitsAt, bytesIn}
 use Rattle.row_step.proofs.Sizing.{turns-most}
 use Rattle.row_step.proofs.Filling.{answer, Filled, fit-wrote, filling-begins, filling-inside, filling-asks-of, filling-next, filling-ends}
-use Rattle.row_write.proofs.Again.{LentAgain, lends-again, comes-back}
+use Rattle.columns.proofs.Again.{LentAgain, lends-again, comes-back}
 use Rattle.columns.proofs.inner.column_at as at
 use Rattle.columns.proofs.inner.column_at.Symbol as at-def
 use Rattle.columns.proofs.inner.column_at.Symbol.{name as #columns·inner·column-at}

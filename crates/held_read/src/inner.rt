@@ -1,0 +1,33 @@
+// The thin functions that lend: the first `count` columns of an array, for the time of one call.
+ghost use mathlib.Core.Path.{_≡_};
+ghost use mathlib.Core.List.{List};
+ghost use Prim.Native.Nat.{ℕ, _≤_};
+ghost use lib.Dec.{ltb};
+ghost use Rattle.lists.specs.Pick.{pick};
+ghost use Rattle.format.specs.Answer.{mapRead, readAt, missing, rule};
+ghost use Rattle.format.specs.Row.{readRow};
+ghost use Rattle.wire.specs.Told.{refusalTold};
+ghost use Rattle.judge_step.specs.Told.{needsOf, rowJudgedTold};
+ghost use Rattle.held_read.specs.Held.{firstColumns};
+use column_type::Column;
+use judge_step::RowJudged;
+use wire::Cursor;
+use wire::Refusal;
+
+// Why a row of more columns than there are places cannot be read. The place comes before the count.
+pub fn many(size: usize, cursor: Cursor) -> Refusal
+    ensures { λ r. ⌜ refusalTold r ≡ pick (ltb size (cursor .at)) missing rule ⌝ }
+{
+    if size < cursor.at {
+        return Refusal::Missing;
+    }
+    Refusal::Rule
+}
+
+// `row_judge::judge_row` of the first columns.
+pub fn judge_lent(cols: [Column; 1024], count: usize, s: &[u8], cursor: Cursor) -> RowJudged
+    requires { ⌜ count ≤ 1024 ⌝ }
+    ensures { λ r. ⌜ ((b : List ℕ) → rowJudgedTold r ≡ mapRead (needsOf (firstColumns b cols count)) (readAt (readRow (firstColumns b cols count)) (now (s .entry)) (cursor .at))) ⌝ }
+{
+    row_judge::judge_row(&cols[..count], s, cursor)
+}

@@ -1,0 +1,4 @@
+pub mod Names
+pub mod Placing
+pub mod Answering
+pub mod Copying

@@ -1,0 +1,19 @@
+-- `normal_step::inner::open_run` meets its contract: by the answer. Assumes nothing.
+use borrow.Author.Needs.{needs}
+use Rattle.normal_step.proofs.inner.open_run.Statement.{statement}
+use Rattle.normal_step.proofs.inner.open_run.Tie as tie
+
+enum-told : tie.Need-enum-told
+enum-told c = search needs
+
+enum-told-2 : tie.Need-enum-told-2
+enum-told-2 c = search needs
+
+returns : tie.Need-returns
+returns c = rw (c .enum-told .given .1)
+
+returns-2 : tie.Need-returns-2
+returns-2 c = rw (c .enum-told2 .given .1)
+
+pub open-run-spec : {M : Type 1} → statement M
+open-run-spec = tie.close (tie.spec enum-told enum-told-2 returns returns-2)

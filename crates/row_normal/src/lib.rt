@@ -1,0 +1,35 @@
+// The normal form of a row under a lent list of columns: all of it at the front of the room, or
+// nothing.
+ghost use mathlib.Core.Path.{_≡_};
+ghost use mathlib.Core.List.{List};
+ghost use Prim.Native.Nat.{ℕ};
+ghost use lib.ListN.{length};
+ghost use Rattle.format.specs.Answer.{mapRead, readAt, fittedRead, roomAfterRead};
+ghost use Rattle.format.specs.Normal.{normal};
+ghost use Rattle.columns.specs.Told.{columnsTold};
+ghost use Rattle.normal_step.specs.Told.{normalTold};
+use column_type::Column;
+use columns::inner;
+use normal_step::Normal;
+use normal_step::inner as turn;
+use value_normal::inner as value;
+use wire::Cursor;
+
+// The normal form of the row at the cursor: how many bytes it has, and where the row ends.
+pub fn normal_row(cols: &[Column], s: &[u8], cursor: Cursor, out: &mut [u8]) -> Normal
+    ensures answer { λ r. ⌜ ((b : List ℕ) → normalTold r ≡ mapRead length (fittedRead (λ (bytes : List ℕ). bytes) (readAt (normal (columnsTold b (now (cols .entry)))) (now (s .entry)) (cursor .at)) (length (now (out .entry))))) ⌝ }
+    ensures room { λ _. ⌜ ((b : List ℕ) → now (out .exit) ≡ roomAfterRead (λ (bytes : List ℕ). bytes) (fittedRead (λ (bytes : List ℕ). bytes) (readAt (normal (columnsTold b (now (cols .entry)))) (now (s .entry)) (cursor .at)) (length (now (out .entry)))) (now (out .entry))) ⌝ }
+{
+    let judged = row_judge::judge_row(cols, s, cursor);
+    let fits = turn::fit_in(judged, out.len());
+    let n = turn::turns(fits, cols.len());
+    let mut run = turn::open_run(fits, cursor);
+    let mut i: usize = 0;
+    while i < n {
+        let c = inner::column_at(cols, i);
+        run = turn::normal_on(out, c, s, run);
+        i += 1;
+    }
+    value::close_run(out, s, run);
+    fits
+}

@@ -1,0 +1,106 @@
+-- PLP content put as one chunk into room of the form's size; and what was judged of a PLP value, told of its normal form.
+-- Assumes nothing.
+use mathlib.Core.Path.{_≡_, refl, sym, ap, _∙_}
+use mathlib.Core.Bool.{Bool, true}
+use mathlib.Core.List.{List, _++_, append-nil}
+use mathlib.Core.Option.{Option, some}
+use Prim.Native.Nat.{ℕ, _+_, _-_, _^_, _<_, _≤_}
+use native.Mathlib.Omega.{arith}
+use lib.ListN.{length, drop-of-length-le}
+use lib.Seq.{sets, length-sets}
+use borrow.Rule.Slice.PartMut.{putMid, midOf}
+use Rattle.lists.specs.Put.{putAt}
+use Rattle.lists.proofs.Front.{sets-put, sets-then}
+use Rattle.lists.proofs.Lent.{lent-sets}
+use Rattle.format.specs.Answer.{gives, Read, took, mapRead, wrote}
+use Rattle.format.specs.Number.{lowBytes}
+use Rattle.format.specs.Plp.{plpUnknown, readPlp, plpBytes}
+use Rattle.format.proofs.Number.{Bytes}
+use Rattle.format.proofs.Plp.{bound-said}
+use Rattle.format.proofs.Plp as Plps
+use Rattle.wire.proofs.Writing.{count-is}
+use Rattle.value_kind.specs.Form.{inForm}
+use Rattle.value_kind.proofs.ContentLaws.{span-count}
+use Rattle.value_kind.proofs.FormLaws.{plp-room, plp-chunk, plp-empty, plp-filled}
+use Rattle.plp_join.specs.Told.{counted, contentIn, placed}
+use Rattle.plp_join.proofs.Joining.{Counted, counted-content}
+use Rattle.value_normal.specs.declared.Run.{Run}
+use Rattle.value_normal.specs.Runs.{held, runOn, RunFits, RunGrows}
+use Rattle.value_normal.proofs.Growing.{held-length, grows-put}
+
+-- ---- room of the form's size
+
+module _ (c out : List ℕ) (h : length out ≡ length (plpBytes (some c))) where
+  abbrev n : ℕ
+  n = length out
+
+  form : gives n ≡ wrote (inForm true (gives c))
+  unfolding wrote
+  form = ap gives h
+
+  pub form-room : 12 ≤ n
+  form-room = plp-room (gives c) n form
+
+  -- behind the eight bytes and the chunk's length
+  module _ (g : n - 4 ≡ 8 → ⊥) where
+    pub chunk-room : (16 < n) × (n - 16 ≡ length c)
+    chunk-room = let r = plp-chunk (gives c) n form g in (r .0, count-is (gives c) (n - 16) c (r .1) refl)
+
+    -- the part that is lent to the chunks is as long as they are
+    pub chunk-part : (two : List ℕ) → length two ≡ n → length (midOf 12 (n - 4 - 12) two) ≡ length c
+    chunk-part two l =
+        let r = chunk-room in
+        let i : 12 + (n - 4 - 12) ≤ length two = omega arith in
+        let e : n - 4 - 12 ≡ length c = omega arith in
+        span-count two 12 (n - 4 - 12) i ∙ e
+
+    chunk-placed : (two : List ℕ) → length two ≡ n → placed c (midOf 12 (n - 4 - 12) two) ≡ c
+    chunk-placed two l =
+        let p = chunk-part two l in
+        ap (λ (x : List ℕ). c ++ x) (drop-of-length-le (midOf 12 (n - 4 - 12) two) {i = length c} (omega arith)) ∙ append-nil c
+
+    pub chunk-put : (one two ys new : List ℕ) → one ≡ sets out 0 (lowBytes 8 plpUnknown) → two ≡ sets one 8 (lowBytes 4 (n - 4 - 12))
+        → ys ≡ placed c (midOf 12 (n - 4 - 12) two) → new ≡ sets (putMid 12 (n - 4 - 12) two ys) (n - 4) (lowBytes 4 0) → new ≡ plpBytes (some c)
+    chunk-put one two ys new p q r t =
+        let l : length two ≡ n = ap length q ∙ (length-sets one 8 (lowBytes 4 (n - 4 - 12)) ∙ (ap length p ∙ length-sets out 0 (lowBytes 8 plpUnknown))) in
+        cc (plp-filled (gives c) out one two ys new form g p q (ap gives (r ∙ chunk-placed two l)) t)
+
+  pub none-put : (new : List ℕ) → n - 4 ≡ 8 → new ≡ sets (sets out 0 (lowBytes 8 plpUnknown)) 8 (lowBytes 4 0) → new ≡ plpBytes (some c)
+  none-put new g e = cc (plp-empty (gives c) out new form g e)
+
+-- ---- what was judged
+
+-- content: what it is, and that its form fits behind the run
+pub record ContentFits (s : List ℕ) (size : ℕ) (run : Run) (r : Read (Option (List ℕ))) (m n : ℕ) : Type 0 where
+  pub counts : Counted r m n
+  pub normal : mapRead plpBytes r ≡ took (plpBytes (some (contentIn r))) n
+  pub fits : RunFits s size run (took (plpBytes (some (contentIn r))) n)
+
+pub content-fits : (s : List ℕ) (size : ℕ) (run : Run) (r : Read (Option (List ℕ))) (m n : ℕ) → mapRead counted r ≡ took (some m) n
+    → RunFits s size run (mapRead plpBytes r) → ContentFits s size run r m n
+content-fits s size run r m n h f =
+    let c = counted-content r m n h in
+    let e : mapRead plpBytes r ≡ took (plpBytes (some (contentIn r))) n = ap (mapRead plpBytes) (c .content) in
+    record { counts = c; normal = e; fits = rw e at f }
+
+-- content is within the bound
+pub content-small : (text : Bool) (s : List ℕ) (m n : ℕ) → Bytes s → Counted (readPlp text s) m n → m < 256 ^ 4
+content-small text s m n b c = omega (arith, Plps.codec text .fits s (some (contentIn (readPlp text s))) n b (c .content) .0, c .long, bound-said)
+
+-- the run, and the form behind it
+pub content-grows : (s out one ys after : List ℕ) (run : Run) (r : Read (Option (List ℕ))) (m n o e : ℕ) → ContentFits s (length out) run r m n
+    → one ≡ putAt out (run .put) (held s run) → o ≡ run .put + (run .at - run .from) → e ≡ o + length (plpBytes (some (contentIn r)))
+    → ys ≡ plpBytes (some (contentIn r)) → after ≡ putMid o (e - o) one ys → RunGrows s out run (mapRead plpBytes r) after (runOn (run .at + n) e)
+content-grows s out one ys after run r m n o e c p q w y a =
+    let bytes = plpBytes (some (contentIn r)) in
+    let f = c .fits in
+    let i : run .at ≤ length s = omega (arith, f .1) in
+    let l = held-length s run (f .0) i in
+    let room : run .put + length (held s run) ≤ length out = omega (arith, f .2) in
+    let p′ : one ≡ sets out (run .put) (held s run) = p ∙ sym (sets-put out (run .put) (held s run) room) in
+    let z : length one ≡ length out = ap length p′ ∙ length-sets out (run .put) (held s run) in
+    let k : length ys ≡ e - o = ap length y ∙ omega arith in
+    let t = lent-sets one ys o (e - o) (omega (arith, f .2)) k in
+    let g : after ≡ sets out (run .put) (held s run ++ bytes) =
+    a ∙ (t ∙ (ap (λ (x : List ℕ). sets one o x) y ∙ (ap (λ (x : List ℕ). sets x o bytes) p′ ∙ sets-then out (run .put) o (held s run) bytes (omega arith)))) in
+    rw (c .normal) (grows-put s out run n (f .0) (f .1) bytes after e (f .2) g (omega arith))

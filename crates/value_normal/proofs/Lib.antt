@@ -1,0 +1,4 @@
+pub mod Growing
+pub mod Content
+pub mod Null
+pub mod Turns
