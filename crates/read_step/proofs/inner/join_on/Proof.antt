@@ -2,7 +2,7 @@
 -- since the value is there and its content fits. Assumes nothing.
 use mathlib.Core.Path.{_≡_, refl, sym, ap, _∙_}
 use mathlib.Core.List.{List, []}
-use Prim.Native.Nat.{ℕ, _+_, _-_, _≤_}
+use Prim.Native.Nat.{ℕ, _≤_}
 use native.Mathlib.Omega.{arith}
 use lib.ListN.{length, length-drop}
 use Rattle.lists.proofs.Lent.{rest-is}
@@ -105,7 +105,8 @@ returns c =
     let d = column z b in
     let e = told call _ (read .read .given .1) b in
     let p = place-there d (a .s .now) (a .out .now) (a .place .cursor .at) (a .place .copied) (z .pre b) _ _ _ refl f r _ _ e in
-    let w = room-holds d (a .s .now) (a .out .now) (a .place .cursor .at) (a .place .copied) (z .pre b) _ _ _ refl f r _ (call .read-in .ensures .1 .1 d refl) in
+    let g = call .read-in .ensures .1 .1 d refl in
+    let w = room-holds d (a .s .now) (a .out .now) (a .place .cursor .at) (a .place .copied) (z .pre b) _ _ _ refl f r _ g in
     (rw (c .copied-of .ensures) p, w)
 
 same-length-2 : tie.Need-same-length-2
