@@ -67,25 +67,13 @@ read-in-requires : tie.Need-read-in-requires
 read-in-requires c κs =
     let z = start (c .before .before .before) in
     let l = ap length (rest-is (z .args .s .now) (z .args .place .cursor .at)) in
-    (omega (arith, z .good, inside z, l, length-drop (z .args .place .cursor .at) (z .args .s .now)), room z)
+    (omega (arith, z .good, inside z, l, length-drop (z .args .place .cursor .at) (z .args .s .now)), omega (arith, room z))
 
 enum-known-read : tie.Need-enum-known-read
 enum-known-read c = search needs
 
 copied-of-requires : tie.Need-copied-of-requires
 copied-of-requires c κs = search needs
-
-add-t21 : tie.Need-add-t21
-add-t21 c =
-    let read = c .before .before in
-    let call = read .before .before .before .before in
-    let z = start (named call) in
-    let a = z .args in
-    let f = named call .family-of .ensures in
-    let r = rest-is (a .s .now) (a .place .cursor .at) in
-    let e = told call _ (read .read .given .1) [] in
-    let m = count-fits (column z []) (a .s .now) (a .out .now) (a .place .cursor .at) (a .place .copied) (z .pre []) _ _ _ refl f r _ _ e in
-    record { fits = omega (arith, m, c .copied-of .ensures, z .good) }
 
 enum-told : tie.Need-enum-told
 enum-told c = search needs
@@ -121,6 +109,18 @@ returns-2 c =
     let r = rest-is (a .s .now) (a .place .cursor .at) in
     let e = told call _ (c .enum-told .given .1) [] in
     not-refused (column z []) (a .s .now) (a .out .now) (a .place .cursor .at) (a .place .copied) (z .pre []) _ _ _ refl f r _ e
+
+add-t21 : tie.Need-add-t21
+add-t21 c =
+    let read = c .before .before in
+    let call = read .before .before .before .before in
+    let z = start (named call) in
+    let a = z .args in
+    let f = named call .family-of .ensures in
+    let r = rest-is (a .s .now) (a .place .cursor .at) in
+    let e = told call _ (read .read .given .1) [] in
+    let m = count-fits (column z []) (a .s .now) (a .out .now) (a .place .cursor .at) (a .place .copied) (z .pre []) _ _ _ refl f r _ _ e in
+    record { fits = omega (arith, m, c .copied-of .ensures, z .good) }
 
 pub join-on-spec : {M : Type 1} → statement M
 join-on-spec =
