@@ -184,7 +184,7 @@ found-stands d s at (Value.binary c) next h room before after e = either d s at 
 found-stands d s at (Value.string c) next h room before after e = either d s at (Value.string c) next h room before after e c refl refl (isPlp d) refl
 
 -- what was read with a room was read
-fits : {X : Type 0} (copied : X → List ℕ) (size : ℕ) (r : Read X) (x : X) (next : ℕ) → fittedRead copied r size ≡ took x next → r ≡ took x next
+pub fits : {X : Type 0} (copied : X → List ℕ) (size : ℕ) (r : Read X) (x : X) (next : ℕ) → fittedRead copied r size ≡ took x next → r ≡ took x next
 unfolding fittedRead
 fits copied size (took y n) x next h = past (ltb size (length (copied y))) _ (took y n) x next h .1
 fits copied size (stops e) x next h = h
@@ -204,7 +204,7 @@ module _ (d : Column) (s : List ℕ) (at : ℕ) (v : Value) (next : ℕ) (out : 
 
 module _ (d : Column) (ds : List Column) (s : List ℕ) (at : ℕ) (vs : List Value) (next : ℕ) where
   -- the first column, and the others behind it
-  first-then : readAt (readValues (d ∷ ds)) s at ≡ took vs next
+  pub first-then : readAt (readValues (d ∷ ds)) s at ≡ took vs next
       → (v : Value) × (m : ℕ) × (rest : List Value) × (readAt (readValue d) s at ≡ took v m) × (readAt (readValues ds) s m ≡ took rest next) × (v ∷ rest ≡ vs)
   unfolding readValues
   first-then h =
@@ -243,7 +243,7 @@ module _ (ds : List Column) (s : List ℕ) (at : ℕ) (vs : List Value) (next : 
   abbrev readOut : Read (List Value)
   readOut = fittedRead (copiedOutRow ds) (readAt (readRow ds) s at) (length out)
 
-  columns : readAt (readRow ds) s at ≡ took vs next → readAt (readValues ds) s at ≡ took vs next
+  pub columns : readAt (readRow ds) s at ≡ took vs next → readAt (readValues ds) s at ≡ took vs next
   unfolding readRow
   columns h =
       let p = took-at (readRow ds) s at vs next h in

@@ -8,23 +8,13 @@ use mathlib.Core.Option.{Option}
 use Prim.Native.Nat.{ℕ, _+_, _≤_}
 use native.Mathlib.Omega.{arith}
 use lib.ListN.{length, drop, length-drop}
-use Rattle.format.specs.Answer.{Read, took, stops, rule, further, mapRead, readAt}
+use Rattle.format.specs.Answer.{Read, took, stops, rule, further, mapRead}
 use Rattle.format.specs.Descriptor as D
 use Rattle.format.specs.Descriptor.{keepsRule}
-use Rattle.format.specs.Value.{Value, Family, familyOf, readFamily, readValue, copiedOut, encode}
-use Rattle.format.proofs.Place.{at-inside, at-stops}
+use Rattle.format.specs.Value.{Value, Family, familyOf, readFamily, copiedOut, encode}
+use Rattle.value_kind.proofs.ColumnLaws.{read-broken, read-kept}
 use Rattle.value_weigh.specs.Told.{Needs, needsValue, needsIn}
 use Rattle.judge_step.specs.Steps.{plusNeeds, judgeOn, Inside}
-
-module _ (c : D.Column) (s : List ℕ) (at : ℕ) (h : at ≤ length s) where
-  pub rule-broken : keepsRule c ≡ false → readAt (readValue c) s at ≡ stops rule
-  unfolding readValue
-  rule-broken k = at-stops (readValue c) s at rule h (rw k)
-
-  pub rule-kept : keepsRule c ≡ true → (declared : ℕ) (f : Option Family) (rest : List ℕ) → c .length ≡ declared → f ≡ familyOf (c .type) → rest ≡ drop at s
-      → readAt (readValue c) s at ≡ further at (readFamily declared f rest)
-  unfolding readValue
-  rule-kept k declared f rest l g r = at-inside (readValue c) s at h ∙ rw (k, l, ← g, ← r)
 
 -- a value of a column needs what it needs under the column's family and declared length
 needs-same : (c : D.Column) (v : Value) (declared : ℕ) (f : Option Family) → c .length ≡ declared → f ≡ familyOf (c .type)
@@ -39,7 +29,7 @@ onWeighed before at (stops e) = stops e
 
 module _ (c : D.Column) (s : List ℕ) (at : ℕ) (before : Needs) (h : at ≤ length s) where
   pub judged-rule : keepsRule c ≡ false → stops rule ≡ judgeOn c s (took before at)
-  judged-rule k = sym (ap (mapRead (λ (v : Value). plusNeeds before (needsValue c v))) (rule-broken c s at h k))
+  judged-rule k = sym (ap (mapRead (λ (v : Value). plusNeeds before (needsValue c v))) (read-broken c s at h k))
 
   weighs-on : (declared : ℕ) (f : Option Family) → c .length ≡ declared → f ≡ familyOf (c .type) → (r : Read Value)
       → onWeighed before at (mapRead (needsIn declared f) r) ≡ mapRead (λ (v : Value). plusNeeds before (needsValue c v)) (further at r)
@@ -52,16 +42,14 @@ module _ (c : D.Column) (s : List ℕ) (at : ℕ) (before : Needs) (h : at ≤ l
   judged-weighed k declared f rest w l g r e =
       ap (onWeighed before at) e
       ∙ (weighs-on declared f l g (readFamily declared f rest)
-      ∙ sym (ap (mapRead (λ (v : Value). plusNeeds before (needsValue c v))) (rule-kept c s at h k declared f rest l g r)))
+      ∙ sym (ap (mapRead (λ (v : Value). plusNeeds before (needsValue c v))) (read-kept c s at h k declared f rest l g r)))
 
 -- a value that lies in the rest, and needs no more than it took: the row with it lies inside
-pub inside-more : (s rest : List ℕ) (at n joined normal : ℕ) (before : Needs) → Inside (length s) (took before at) → rest ≡ drop at s
-    → (n ≤ length rest) × (joined ≤ n) × (normal ≤ n)
+pub inside-more : (s : List ℕ) (at n joined normal : ℕ) (before : Needs) → Inside (length s) (took before at)
+    → (n ≤ length (drop at s)) × (joined ≤ n) × (normal ≤ n)
     → Inside (length s) (took (plusNeeds before (record { joined = joined; normal = normal })) (at + n))
-inside-more s rest at n joined normal before i r w =
-    let l : length rest ≡ length (drop at s) = ap length r in
-    let d = length-drop at s in (
-      omega (arith, l, d, i .0, w .0),
-      omega (arith, i .1, w .1),
-      omega (arith, i .2, w .2),
-    )
+inside-more s at n joined normal before i w = (
+  omega (arith, length-drop at s, i .0, w .0),
+  omega (arith, i .1, w .1),
+  omega (arith, i .2, w .2),
+)

@@ -43,12 +43,12 @@ module _ (text : Bool) (s : List ℕ) where
 
 -- ---- back from the count
 
-counted-null : (r : Read (Option (List ℕ))) (n : ℕ) → mapRead counted r ≡ took none n → r ≡ took none n
+pub counted-null : (r : Read (Option (List ℕ))) (n : ℕ) → mapRead counted r ≡ took none n → r ≡ took none n
 counted-null (took none m) n h = let q : m ≡ n = cc in ap (took none) q
 counted-null (took (some c) m) n h = let z : _≡_ {A = ℕ} 0 1 = cc in absurd (omega arith)
 counted-null (stops e) n h = no-took e none n h
 
-counted-stops : (r : Read (Option (List ℕ))) (e : Refusal) → mapRead counted r ≡ stops e → r ≡ stops e
+pub counted-stops : (r : Read (Option (List ℕ))) (e : Refusal) → mapRead counted r ≡ stops e → r ≡ stops e
 counted-stops (took o m) e h = let z : _≡_ {A = ℕ} 0 1 = cc in absurd (omega arith)
 counted-stops (stops d) e h = let q : d ≡ e = cc in ap stops q
 

@@ -46,6 +46,41 @@ same-found n e = ap (λ (f : F.Found). took f n) e
 abbrev pub said : {A : Type 0} {x y : A} → x ≡ y → A
 said {A} {x} {y} e = x
 
+-- ---- a value by where its content stands
+
+module _ (c : D.Column) where
+  pub no-content : (v : Value) → contentOf v ≡ [] → copiedOut c v ≡ []
+  unfolding copiedOut
+  no-content v e = go (isPlp c)
+    where
+      go : (b : Bool) → pick b (contentOf v) [] ≡ []
+      go true = e
+      go false = refl
+
+  -- PLP content is copied out, and no other
+  pub none-copied : isPlp c ≡ false → (v : Value) → copiedOut c v ≡ []
+  unfolding copiedOut
+  none-copied t v = rw t
+
+  pub copies : isPlp c ≡ true → (k : ContentKind) (o : Option (List ℕ)) → copiedOut c (contentValue k o) ≡ plpCopied o
+  unfolding copiedOut
+  copies t k none = rw t
+  copies t ContentKind.binary (some s) = rw t
+  copies t ContentKind.string (some s) = rw t
+
+  module _ (at copied : ℕ) where
+    pub stands-input : isPlp c ≡ false → (k : ContentKind) (s : List ℕ) →
+        F.foundOf c at copied (contentValue k (some s)) ≡ contentFound k (F.inInput (at + 2) (length s))
+    stands-input t ContentKind.binary s = rw t
+    stands-input t ContentKind.string s = rw t
+
+    pub stands-room : isPlp c ≡ true → (k : ContentKind) (o : Option (List ℕ)) → F.foundOf c at copied (contentValue k o) ≡ foundCounted k copied (counted o)
+    stands-room t k none = refl
+    stands-room t ContentKind.binary (some s) = rw t
+    stands-room t ContentKind.string (some s) = rw t
+
+-- ---- with a room
+
 module _ (c : D.Column) (at copied : ℕ) (out : List ℕ) where
   abbrev left : ℕ
   left = length out - copied
@@ -61,40 +96,26 @@ module _ (c : D.Column) (at copied : ℕ) (out : List ℕ) where
       let t : ltb left 0 ≡ false = le-ltb left 0 (omega arith) in
       record { answered = rw (e, t); stays = rw (e, t, e) (sym (take-append-drop copied out)) }
 
-  no-content : (v : Value) → contentOf v ≡ [] → copiedOut c v ≡ []
-  unfolding copiedOut
-  no-content v e = go (isPlp c)
-    where
-      go : (b : Bool) → pick b (contentOf v) [] ≡ []
-      go true = e
-      go false = refl
-
   pub null-found : (r : Read Value) (n : ℕ) → took Value.null n ≡ r → Answers (took F.Found.null (at + n)) out r
-  null-found r n e = subst (Answers (took F.Found.null (at + n)) out) e (kept Value.null n (no-content Value.null refl))
+  null-found r n e = subst (Answers (took F.Found.null (at + n)) out) e (kept Value.null n (no-content c Value.null refl))
 
   pub scalar-found : (r : Read Value) (v : Scalar) (n : ℕ) → took (Value.scalar v) n ≡ r → Answers (took (F.Found.scalar v) (at + n)) out r
-  scalar-found r v n e = subst (Answers (took (F.Found.scalar v) (at + n)) out) e (kept (Value.scalar v) n (no-content (Value.scalar v) refl))
+  scalar-found r v n e = subst (Answers (took (F.Found.scalar v) (at + n)) out) e (kept (Value.scalar v) n (no-content c (Value.scalar v) refl))
 
   pub stops-found : (r : Read Value) (d : Refusal) → stops d ≡ r → Answers (stops d) out r
   unfolding fittedRead roomAfterRead
   stops-found r d e = subst (Answers (stops d) out) e (record { answered = refl; stays = sym (take-append-drop copied out) })
 
-  stands-input : isPlp c ≡ false → (k : ContentKind) (s : List ℕ) →
-      F.foundOf c at copied (contentValue k (some s)) ≡ contentFound k (F.inInput (at + 2) (length s))
-  stands-input t ContentKind.binary s = rw t
-  stands-input t ContentKind.string s = rw t
-
   -- content behind the two length bytes
   pub part-found : isPlp c ≡ false → (r : Read Value) (k : ContentKind) (rest : List ℕ) (start count : ℕ) → start ≡ 2 → start + count ≤ length rest
       → took (contentValue k (some (take count (drop start rest)))) (start + count) ≡ r
       → Answers (took (contentFound k (F.inInput (at + start) count)) (at + (start + count))) out r
-  unfolding copiedOut
   part-found t r k rest start count two inside e =
       let s = take count (drop start rest) in
       let l : length s ≡ count = length-take-le count (drop start rest) (omega (arith, length-drop start rest)) in
       let f : F.foundOf c at copied (contentValue k (some s)) ≡ contentFound k (F.inInput (at + start) count) =
-      stands-input t k s ∙ ap (λ (p : F.Stand). contentFound k p) (rw (l, two)) in
-      let a = kept (contentValue k (some s)) (start + count) (rw t) in
+      stands-input c at copied t k s ∙ ap (λ (p : F.Stand). contentFound k p) (rw (l, two)) in
+      let a = kept (contentValue k (some s)) (start + count) (none-copied c t (contentValue k (some s))) in
       subst (Answers (took (contentFound k (F.inInput (at + start) count)) (at + (start + count))) out) e
       (subst (λ (x : F.Found). Answers (took x (at + (start + count))) out (took (contentValue k (some s)) (start + count))) f a)
 
@@ -103,26 +124,9 @@ module _ (c : D.Column) (at copied : ℕ) (out : List ℕ) where
     abbrev joins : Read (Option (List ℕ)) → Read (Option (List ℕ))
     joins r = fittedRead plpCopied (further at r) left
 
-    stands-room : (o : Option (List ℕ)) → F.foundOf c at copied (contentValue k o) ≡ foundCounted k copied (counted o)
-    stands-room none = refl
-    stands-room (some s) = go k
-      where
-        go : (j : ContentKind) → F.foundOf c at copied (contentValue j (some s)) ≡ contentFound j (F.inRoom copied (length s))
-        go ContentKind.binary = rw t
-        go ContentKind.string = rw t
-
-    copies : (o : Option (List ℕ)) → copiedOut c (contentValue k o) ≡ plpCopied o
-    unfolding copiedOut
-    copies none = rw t
-    copies (some s) = go k
-      where
-        go : (j : ContentKind) → copiedOut c (contentValue j (some s)) ≡ s
-        go ContentKind.binary = rw t
-        go ContentKind.string = rw t
-
     read-joins : (r : Read (Option (List ℕ))) → behind c (mapRead (contentValue k) r) at left ≡ mapRead (contentValue k) (joins r)
     unfolding fittedRead
-    read-joins (took o n) = rw (copies o) (go (ltb left (length (plpCopied o))))
+    read-joins (took o n) = rw (copies c t k o) (go (ltb left (length (plpCopied o))))
       where
         go : (b : Bool) → pick b (stops room) (took (contentValue k o) (at + n)) ≡ mapRead (contentValue k) (pick b (stops room) (took o (at + n)))
         go true = refl
@@ -131,12 +135,12 @@ module _ (c : D.Column) (at copied : ℕ) (out : List ℕ) where
 
     told-joins : (r : Read (Option (List ℕ))) →
         mapRead (foundCounted k copied) (mapRead counted r) ≡ mapRead (F.foundOf c at copied) (mapRead (contentValue k) r)
-    told-joins (took o n) = ap (λ (f : F.Found). took f n) (sym (stands-room o))
+    told-joins (took o n) = ap (λ (f : F.Found). took f n) (sym (stands-room c at copied t k o))
     told-joins (stops e) = refl
 
     room-joins : (r : Read (Option (List ℕ))) (l : List ℕ) → roomAfterRead plpCopied r l ≡ roomAfterRead (copiedOut c) (mapRead (contentValue k) r) l
     unfolding roomAfterRead
-    room-joins (took o n) l = rw (copies o)
+    room-joins (took o n) l = rw (copies c t k o)
     room-joins (stops e) l = refl
 
     joins-found : (r : Read (Option (List ℕ))) (told : Read (Option ℕ)) (ys : List ℕ) → told ≡ mapRead counted (joins r)

@@ -23,7 +23,7 @@ use value_look::Seen;
 use wire::Cursor;
 
 // Content of a kind by where it stands.
-fn content_found(k: ContentKind, p: Stand) -> Found
+pub fn content_found(k: ContentKind, p: Stand) -> Found
     ensures told { λ r. ⌜ foundTold r ≡ contentFound (contentKindTold k) (standTold p) ⌝ }
     ensures canonical { λ r. ⌜ CanonicalFound r ⌝ }
 {

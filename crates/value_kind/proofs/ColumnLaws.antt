@@ -1,15 +1,19 @@
 -- A value under a column: rule 6 first, then the column's family; a length that keeps the rule fits four bytes.
 -- Assumes nothing.
-use mathlib.Core.Path.{_≡_, refl}
+use mathlib.Core.Path.{_≡_, refl, _∙_}
 use mathlib.Core.Bool.{Bool, true, false}
-use Prim.Native.Nat.{ℕ, _<_, _^_}
+use mathlib.Core.List.{List}
+use mathlib.Core.Option.{Option}
+use Prim.Native.Nat.{ℕ, _<_, _≤_, _^_}
 use native.Mathlib.Omega.{arith}
+use lib.ListN.{length, drop}
 use borrow.Author.Tests.{ltb-true, eqb-true}
 use Rattle.lists.proofs.Split.{clash}
-use Rattle.format.specs.Answer.{gives, refuses, rule, wrote}
+use Rattle.format.specs.Answer.{gives, refuses, stops, rule, further, wrote, readAt}
 use Rattle.format.specs.Descriptor.{TypeId, fixedLen, byteLen, uShortLen, longLen, daten, xml, udt, ssVariant, Column, lengthFits, keepsRule}
-use Rattle.format.specs.Value.{Given, familyOf, writeFamily, writeValue}
+use Rattle.format.specs.Value.{Given, Family, familyOf, readFamily, readValue, writeFamily, writeValue}
 use Rattle.format.proofs.DescriptorForm.{both-true}
+use Rattle.format.proofs.Place.{at-inside, at-stops}
 
 length-below : (t : TypeId) (n : ℕ) → lengthFits t n ≡ true → n < 256 ^ 4
 length-below (fixedLen t) n h = let e = eqb-true n 0 h in omega arith
@@ -42,3 +46,16 @@ module _ (c : Column) where
       go : (b : Bool) → keepsRule c ≡ b → keepsRule c ≡ true
       go true e = e
       go false e = clash (cc (rw e at h))
+
+-- ---- read at a place inside the input
+
+module _ (c : Column) (s : List ℕ) (at : ℕ) (h : at ≤ length s) where
+  pub read-broken : keepsRule c ≡ false → readAt (readValue c) s at ≡ stops rule
+  unfolding readValue
+  read-broken k = at-stops (readValue c) s at rule h (rw k)
+
+  -- what is read of the rest, under the column's family and declared length
+  pub read-kept : keepsRule c ≡ true → (declared : ℕ) (f : Option Family) (rest : List ℕ) → c .length ≡ declared → f ≡ familyOf (c .type) → rest ≡ drop at s
+      → readAt (readValue c) s at ≡ further at (readFamily declared f rest)
+  unfolding readValue
+  read-kept k declared f rest l g r = at-inside (readValue c) s at h ∙ rw (k, l, ← g, ← r)

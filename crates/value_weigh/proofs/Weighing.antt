@@ -23,7 +23,8 @@ use Rattle.format.proofs.Plain.{byte-took, low-took, bytes-took}
 use Rattle.format.proofs.Scalar.{length-guid}
 use Rattle.format.proofs.Opening.{stays-plp}
 use Rattle.format.proofs.Plp as Plps
-use Rattle.plp_join.specs.Told.{counted}
+use Rattle.plp_join.specs.Told.{counted, contentIn}
+use Rattle.plp_join.proofs.Joining.{counted-null, counted-stops, counted-content}
 use Rattle.value_weigh.specs.Told.{Needs, copiedIn, needsIn, plpNeeds}
 
 -- ---- a scalar takes its width again
@@ -233,26 +234,6 @@ module _ (text : Bool) (s : List ℕ) where
       let j : 8 + (4 + suc (length xs) + 4) ≤ n = i in
       (b, omega (arith, j, length-append xs (lowBytes 4 0)))
 
-  null-of : (r : Read (Option (List ℕ))) → took none 8 ≡ mapRead counted r → took none 8 ≡ r
-  null-of (took none n) h = let z : 8 ≡ n = cc in ap (took none) z
-  null-of (took (some c) n) h = clash cc
-  null-of (stops e) h = clash cc
-
-  content-of : (count end : ℕ) (r : Read (Option (List ℕ))) → took (some count) end ≡ mapRead counted r
-      → (c : List ℕ) × (r ≡ took (some c) end) × (length c ≡ count)
-  content-of count end (took none n) h = clash cc
-  content-of count end (took (some c) n) h =
-      let z : end ≡ n = cc in
-      let y : some count ≡ some (length c) = cc in
-      let x : count ≡ length c = cc in
-      (c, ap (took (some c)) (sym z), sym x)
-  content-of count end (stops e) h = clash cc
-
-  stops-of : (e : Refusal) (r : Read (Option (List ℕ))) → stops e ≡ mapRead counted r → stops e ≡ mapRead plpNeeds r
-  stops-of e (took none n) h = clash cc
-  stops-of e (took (some c) n) h = clash cc
-  stops-of e (stops d) h = let z : e ≡ d = cc in ap stops z
-
   -- what is asked of a PLP value's weight
   abbrev pub Weighs : Read Needs → Type 0
   Weighs w = w ≡ mapRead plpNeeds (readPlp text s)
@@ -260,24 +241,33 @@ module _ (text : Bool) (s : List ℕ) where
   pub judged-null : took none 8 ≡ mapRead counted (readPlp text s) → Weighs (took (record { joined = 0; normal = 8 }) 8) × (8 ≤ length s)
   unfolding plpBytes
   judged-null h =
-      let e = null-of (readPlp text s) h in
-      (ap (mapRead plpNeeds) e, stays-plp text s none 8 (sym e))
+      let e = counted-null (readPlp text s) 8 (sym h) in
+      (ap (mapRead plpNeeds) (sym e), stays-plp text s none 8 e)
 
   pub judged-stops : (e : Refusal) → stops e ≡ mapRead counted (readPlp text s) → Weighs (stops e)
-  judged-stops e h = stops-of e (readPlp text s) h
+  judged-stops e h = ap (mapRead plpNeeds) (sym (counted-stops (readPlp text s) e (sym h)))
 
   module _ (count end : ℕ) (h : took (some count) end ≡ mapRead counted (readPlp text s)) where
-    pub judged-most : count ≤ 65535
-    judged-most =
-        let p = content-of count end (readPlp text s) h in
-        omega (arith, content-most (p .0) end (Plps.plp-took text s (some (p .0)) end (p .1)) .0, p .2)
+    -- the content that was counted
+    abbrev c : List ℕ
+    c = contentIn (readPlp text s)
 
-    pub judged-content : (m : ℕ) → ((c : List ℕ) → length c ≡ count → m ≡ length (plpBytes (some c)))
+    read : readPlp text s ≡ took (some c) end
+    read = counted-content (readPlp text s) count end (sym h) .content
+
+    long-as : length c ≡ count
+    long-as = counted-content (readPlp text s) count end (sym h) .long
+
+    taken : (length c ≤ 65535) × (length (plpBytes (some c)) ≤ end)
+    taken = content-most c end (Plps.plp-took text s (some c) end read)
+
+    pub judged-most : count ≤ 65535
+    judged-most = omega (arith, taken .0, long-as)
+
+    pub judged-content : (m : ℕ) → ((x : List ℕ) → length x ≡ count → m ≡ length (plpBytes (some x)))
         → Weighs (took (record { joined = count; normal = m }) end) × ((end ≤ length s) × (count ≤ end) × (m ≤ end))
     judged-content m f =
-        let p = content-of count end (readPlp text s) h in
-        let g = f (p .0) (p .2) in
-        let l = content-most (p .0) end (Plps.plp-took text s (some (p .0)) end (p .1)) .1 in (
-          sym (ap (mapRead plpNeeds) (p .1) ∙ rw (p .2, ← g)),
-          (stays-plp text s (some (p .0)) end (p .1), omega (arith, l, plp-longer (p .0), p .2), omega (arith, g, l)),
+        let g = f c long-as in (
+          sym (ap (mapRead plpNeeds) read ∙ rw (long-as, ← g)),
+          (stays-plp text s (some c) end read, omega (arith, taken .1, plp-longer c, long-as), omega (arith, g, taken .1)),
         )
