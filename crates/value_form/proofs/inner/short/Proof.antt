@@ -26,8 +26,8 @@ returns c =
     let a = start .args in
     short-null (contentKindTold (a .k)) (a .declared) (a .rest .now) (start .pre .0) (there start) (bytes (low .before)) _ (low .low-at .ensures .0) (c .if1 .taken)
 
-add-t7 : tie.Need-add-t7
-add-t7 c = search needs
+add-t6 : tie.Need-add-t6
+add-t6 c = search needs
 
 returns-2 : tie.Need-returns-2
 returns-2 c =
@@ -38,4 +38,4 @@ returns-2 c =
     (c .if1 .left) (start .pre .1)
 
 pub short-spec : {M : Type 1} → statement M
-short-spec = tie.close (tie.spec low-at-requires returns add-t7 returns-2)
+short-spec = tie.close (tie.spec low-at-requires returns add-t6 returns-2)
