@@ -46,7 +46,7 @@ use Rattle.column_type.specs.declared.ColumnRead.the-variants as CR
 use Rattle.column_type.specs.Told.{columnTold, columnReadTold}
 use Rattle.column_type.proofs.RoundTrip.{read-written}
 use Rattle.columns.specs.Told.{columnsTold}
-use Rattle.wire.specs.declared.Cursor.{Cursor}
+use Rattle.cursor.specs.declared.Cursor.{Cursor}
 use Rattle.wire.specs.declared.Wrote.{Wrote}
 use Rattle.wire.specs.declared.Wrote.the-variants as W
 use Rattle.wire.proofs.Decided.{Writes}

@@ -9,8 +9,8 @@ ghost use Rattle.format.specs.Normal.{normal};
 ghost use Rattle.normal_step.specs.Told.{normalTold};
 ghost use Rattle.held_read.specs.Held.{firstColumns, countedRead};
 use column_type::Column;
+use cursor::Cursor;
 use normal_step::Normal;
-use wire::Cursor;
 
 pub mod inner;
 

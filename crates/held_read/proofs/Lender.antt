@@ -46,9 +46,9 @@ use denote.Triple.Spec.{Meets, tripleOf}
 use denote.Triple.Walked.{says, needs, Stays, stay-dropped, gave-slice, walkOf, goes-dropped, goes-gave-slice, Walks, ends-at, walked, walk-meets}
 use denote.Triple.Clauses.{Ended, AtExit, Clauses, Lasts, lasts, atExit, closing}
 use denote.Exit.{yes}
-use Rattle.wire.specs.declared.Cursor.{Cursor}
-use Rattle.wire.proofs.Cursor as K
-use Rattle.wire.proofs.Cursor.Laws as K′
+use Rattle.cursor.specs.declared.Cursor.{Cursor}
+use Rattle.cursor.proofs.Cursor as K
+use Rattle.cursor.proofs.Cursor.Laws as K′
 use Rattle.column_type.specs.declared.Column.{Column}
 use Rattle.column_type.proofs.Column as T
 use Rattle.held.proofs.Lending.{front}

@@ -10,8 +10,8 @@ ghost use Rattle.wire.specs.Told.{refusalTold};
 ghost use Rattle.judge_step.specs.Told.{needsOf, rowJudgedTold};
 ghost use Rattle.held_read.specs.Held.{firstColumns};
 use column_type::Column;
+use cursor::Cursor;
 use judge_step::RowJudged;
-use wire::Cursor;
 use wire::Refusal;
 
 // Why a row of more columns than there are places cannot be read. The place comes before the count.

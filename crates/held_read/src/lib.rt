@@ -8,8 +8,8 @@ ghost use Rattle.format.specs.Row.{readRow};
 ghost use Rattle.judge_step.specs.Told.{needsOf, rowJudgedTold};
 ghost use Rattle.held_read.specs.Held.{firstColumns, countedRead};
 use column_type::Column;
+use cursor::Cursor;
 use judge_step::RowJudged;
-use wire::Cursor;
 
 pub mod inner;
 

@@ -9,9 +9,9 @@ ghost use Rattle.judge_step.specs.Steps.{startOf, turnsOf, judgeOn, Insi
 use crate::RowJudged;
 use crate::RowNeeds;
 use column_type::Column;
+use cursor::Cursor;
 use value_kind::family;
 use value_weigh::Weighed;
-use wire::Cursor;
 use wire::Refusal;
 
 // The place, then the number of columns.

@@ -1,7 +1,7 @@
 // One column's turn in judging a row: what the row needs so far, and one value more.
 pub mod inner;
 
-use wire::Cursor;
+use cursor::Cursor;
 use wire::Refusal;
 
 // Where a row ends, how many content bytes reading copies out, and how many bytes its normal form

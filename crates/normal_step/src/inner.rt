@@ -9,10 +9,10 @@ ghost use Rattle.normal_step.specs.Told.{normalTold};
 ghost use Rattle.normal_step.specs.Steps.{fitNormal, turnsOf, openOf, normalValue};
 use crate::Normal;
 use column_type::Column;
+use cursor::Cursor;
 use judge_step::RowJudged;
 use value_kind::family;
 use value_normal::Run;
-use wire::Cursor;
 use wire::Refusal;
 
 // Is there room for the normal form of a row that was judged?

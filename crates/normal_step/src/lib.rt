@@ -2,7 +2,7 @@
 // room's test, the first run.
 pub mod inner;
 
-use wire::Cursor;
+use cursor::Cursor;
 use wire::Refusal;
 
 // How many bytes of normal form stand at the front of the room, and where the row ends in the input;

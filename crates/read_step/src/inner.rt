@@ -13,6 +13,7 @@ ghost use Rattle.read_step.specs.Told.{firstPlace, placeTold, rowReadTol
 ghost use Rattle.read_step.specs.Steps.{fitIn, turnsOf, inRoom, roomCount, FitsAt, copiedIn, placeBehind};
 use crate::RowRead;
 use column_type::Column;
+use cursor::Cursor;
 use judge_step::RowJudged;
 use row_place::RowPlace;
 use value_found::Found;
@@ -20,7 +21,6 @@ use value_found::Stand;
 use value_found::ValueRead;
 use value_found::inner;
 use value_kind::family;
-use wire::Cursor;
 use wire::Refusal;
 
 // Between the passes: is there room for what reading the row copies out?
@@ -116,7 +116,7 @@ pub fn join_on(out: &mut [u8], c: Column, s: &[u8], place: RowPlace) -> RowPlace
     );
     match read {
         ValueRead::Value(found, next) => RowPlace {
-            cursor: next,
+            cursor: Cursor { at: next.at },
             copied: copied + copied_of(found),
         },
         ValueRead::Refused(_) => place,

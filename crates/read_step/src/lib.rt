@@ -2,8 +2,8 @@
 // refusal but the room's, the second copies PLP content into the room and cannot fail.
 pub mod inner;
 
+use cursor::Cursor;
 use row_place::RowPlace;
-use wire::Cursor;
 use wire::Refusal;
 
 // A row that was read: its first value's place, and where the row ends; or why there is none.

@@ -9,9 +9,9 @@ ghost use Rattle.columns.specs.Told.{columnsTold};
 ghost use Rattle.judge_step.specs.Told.{needsOf, rowJudgedTold};
 use column_type::Column;
 use columns::inner;
+use cursor::Cursor;
 use judge_step::RowJudged;
 use judge_step::inner as turn;
-use wire::Cursor;
 
 // What the row at the cursor needs, or why it cannot be read.
 pub fn judge_row(cols: &[Column], s: &[u8], cursor: Cursor) -> RowJudged

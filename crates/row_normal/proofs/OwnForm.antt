@@ -21,7 +21,7 @@ use Rattle.format.proofs.Number.{Bytes}
 use Rattle.format.proofs.Plain.{bytes-drop}
 use Rattle.format.proofs.Place.{past, no-took, took-at, at-took, map-took}
 use Rattle.format.proofs.Normal.{NormalForm, normal-form, normal-took}
-use Rattle.wire.specs.declared.Cursor.{Cursor}
+use Rattle.cursor.specs.declared.Cursor.{Cursor}
 use Rattle.column_type.specs.declared.Column.{Column}
 use Rattle.columns.specs.Told.{columnsTold}
 use Rattle.normal_step.specs.declared.Normal.the-variants as N

@@ -10,10 +10,10 @@ ghost use Rattle.columns.specs.Told.{columnsTold};
 ghost use Rattle.normal_step.specs.Told.{normalTold};
 use column_type::Column;
 use columns::inner;
+use cursor::Cursor;
 use normal_step::Normal;
 use normal_step::inner as turn;
 use value_normal::inner as value;
-use wire::Cursor;
 
 // The normal form of the row at the cursor: how many bytes it has, and where the row ends.
 pub fn normal_row(cols: &[Column], s: &[u8], cursor: Cursor, out: &mut [u8]) -> Normal

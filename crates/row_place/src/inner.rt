@@ -12,6 +12,7 @@ ghost use Rattle.value_found.specs.Told.{foundTold, CanonicalFound, plpValue};
 ghost use Rattle.row_place.specs.Told.{rowValueTold, CanonicalPlaced, placedBehind};
 use crate::RowPlace;
 use crate::RowValue;
+use cursor::Cursor;
 use plp_join::Judged;
 use value_found::Found;
 use value_found::Stand;
@@ -22,7 +23,6 @@ use value_kind::family::ContentKind;
 use value_kind::family::Family;
 use value_kind::kinds;
 use value_look::Seen;
-use wire::Cursor;
 use wire::Refusal;
 
 // No room has more bytes.

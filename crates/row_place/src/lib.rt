@@ -7,9 +7,9 @@ ghost use Prim.Native.Nat.{ℕ};
 ghost use Rattle.column_type.specs.Told.{columnTold};
 ghost use Rattle.row_place.specs.Told.{rowValueTold, CanonicalPlaced, placedAt};
 use column_type::Column;
+use cursor::Cursor;
 use value_found::Found;
 use value_kind::family;
-use wire::Cursor;
 use wire::Refusal;
 
 // Where the next value stands in the input, and how many content bytes were copied out before it.

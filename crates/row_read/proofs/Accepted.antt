@@ -20,7 +20,7 @@ use Rattle.format.specs.Found as F
 use Rattle.format.specs.Found.{foundRow}
 use Rattle.format.proofs.Place.{took-at, map-took}
 use Rattle.format.proofs.Found.{AllStand, read-fits, columns, first-then, read-row-stands}
-use Rattle.wire.specs.declared.Cursor.{Cursor}
+use Rattle.cursor.specs.declared.Cursor.{Cursor}
 use Rattle.column_type.specs.declared.Column.{Column}
 use Rattle.column_type.specs.Told.{columnTold}
 use Rattle.columns.specs.Told.{columnsTold}

@@ -10,9 +10,9 @@ ghost use Rattle.columns.specs.Told.{columnsTold};
 ghost use Rattle.read_step.specs.Told.{firstPlace, rowReadTold};
 use column_type::Column;
 use columns::inner;
+use cursor::Cursor;
 use read_step::RowRead;
 use read_step::inner as turn;
-use wire::Cursor;
 
 // The row at the cursor: its first value's place, from which `value` takes the values in turn, and
 // where it ends. What PLP content joins to stands at the front of the room.

@@ -52,9 +52,9 @@ use denote.Triple.Clauses.{ensured, lasts}
 use denote.Exit.{yes}
 use Rattle.format.specs.Answer.{Read, mapRead, readAt}
 use Rattle.format.specs.Row.{readRow}
-use Rattle.wire.specs.declared.Cursor.{Cursor}
-use Rattle.wire.proofs.Cursor as K
-use Rattle.wire.proofs.Cursor.Laws as K′
+use Rattle.cursor.specs.declared.Cursor.{Cursor}
+use Rattle.cursor.proofs.Cursor as K
+use Rattle.cursor.proofs.Cursor.Laws as K′
 use Rattle.column_type.specs.Told.{columnTold}
 use Rattle.column_type.specs.declared.Column.{Column}
 use Rattle.column_type.proofs.Column as T

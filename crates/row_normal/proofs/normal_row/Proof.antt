@@ -58,9 +58,9 @@ use denote.Exit.{yes}
 use Rattle.lists.specs.Put.{putAt}
 use Rattle.format.specs.Answer.{Read, mapRead, readAt, roomAfterRead}
 use Rattle.format.specs.Row.{readRow}
-use Rattle.wire.specs.declared.Cursor.{Cursor}
-use Rattle.wire.proofs.Cursor as K
-use Rattle.wire.proofs.Cursor.Laws as K′
+use Rattle.cursor.specs.declared.Cursor.{Cursor}
+use Rattle.cursor.proofs.Cursor as K
+use Rattle.cursor.proofs.Cursor.Laws as K′
 use Rattle.column_type.specs.Told.{columnTold}
 use Rattle.column_type.specs.declared.Column.{Column}
 use Rattle.column_type.proofs.Column as T

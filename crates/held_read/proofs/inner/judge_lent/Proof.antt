@@ -45,9 +45,9 @@ use denote.Triple.Clauses.{Lasts, lasts}
 use denote.Exit.{yes}
 use Rattle.format.specs.Answer.{mapRead, readAt}
 use Rattle.format.specs.Row.{readRow}
-use Rattle.wire.specs.declared.Cursor.{Cursor}
-use Rattle.wire.proofs.Cursor as K
-use Rattle.wire.proofs.Cursor.Laws as K′
+use Rattle.cursor.specs.declared.Cursor.{Cursor}
+use Rattle.cursor.proofs.Cursor as K
+use Rattle.cursor.proofs.Cursor.Laws as K′
 use Rattle.column_type.specs.declared.Column.{Column}
 use Rattle.judge_step.specs.Told.{needsOf, rowJudgedTold}
 use Rattle.judge_step.specs.declared.RowJudged.{RowJudged}

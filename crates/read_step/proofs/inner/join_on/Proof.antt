@@ -110,8 +110,8 @@ returns-2 c =
     let e = told call _ (c .enum-told .given .1) [] in
     not-refused (column z []) (a .s .now) (a .out .now) (a .place .cursor .at) (a .place .copied) (z .pre []) _ _ _ refl f r _ e
 
-add-t21 : tie.Need-add-t21
-add-t21 c =
+add-t22 : tie.Need-add-t22
+add-t22 c =
     let read = c .before .before in
     let call = read .before .before .before .before in
     let z = start (named call) in
@@ -134,7 +134,7 @@ join-on-spec =
     read-in-requires
     enum-known-read
     copied-of-requires
-    add-t21
+    add-t22
     enum-told
     same-length
     returns
