@@ -12,7 +12,13 @@ use normal_step::Normal;
 use wire::Cursor;
 
 // `row_normal::normal_row` of the first columns.
-pub fn normal_lent(cols: [Column; 1024], count: usize, s: &[u8], cursor: Cursor, out: &mut [u8]) -> Normal
+pub fn normal_lent(
+    cols: [Column; 1024],
+    count: usize,
+    s: &[u8],
+    cursor: Cursor,
+    out: &mut [u8],
+) -> Normal
     requires { ⌜ count ≤ 1024 ⌝ }
     ensures answer { λ r. ⌜ ((b : List ℕ) → normalTold r ≡ mapRead length (fittedRead (λ (bytes : List ℕ). bytes) (readAt (normal (firstColumns b cols count)) (now (s .entry)) (cursor .at)) (length (now (out .entry))))) ⌝ }
     ensures room { λ _. ⌜ ((b : List ℕ) → now (out .exit) ≡ roomAfterRead (λ (bytes : List ℕ). bytes) (fittedRead (λ (bytes : List ℕ). bytes) (readAt (normal (firstColumns b cols count)) (now (s .entry)) (cursor .at)) (length (now (out .entry)))) (now (out .entry))) ⌝ }

@@ -15,7 +15,13 @@ use wire::Cursor;
 pub mod inner;
 
 // The normal form of the row at the cursor: how many bytes it has, and where the row ends.
-pub fn normal_held_row(cols: [Column; 1024], count: usize, s: &[u8], cursor: Cursor, out: &mut [u8]) -> Normal
+pub fn normal_held_row(
+    cols: [Column; 1024],
+    count: usize,
+    s: &[u8],
+    cursor: Cursor,
+    out: &mut [u8],
+) -> Normal
     ensures answer { λ r. ⌜ ((b : List ℕ) → normalTold r ≡ mapRead length (fittedRead (λ (bytes : List ℕ). bytes) (readAt (countedRead count (normal (firstColumns b cols count))) (now (s .entry)) (cursor .at)) (length (now (out .entry))))) ⌝ }
     ensures room { λ _. ⌜ ((b : List ℕ) → now (out .exit) ≡ roomAfterRead (λ (bytes : List ℕ). bytes) (fittedRead (λ (bytes : List ℕ). bytes) (readAt (countedRead count (normal (firstColumns b cols count))) (now (s .entry)) (cursor .at)) (length (now (out .entry)))) (now (out .entry))) ⌝ }
 {

@@ -119,8 +119,13 @@ module _ {M : Type 1} (𝓤 : URA M) (Res : RattleType) (e′ : (κs : Lfts 3) �
 abbrev stayed : (Res : RattleType) → Stays (Lender Res .signature .params) (Lender Res .kept)
 stayed Res = (
   stay-dropped (plain (λ _. Columns)) yes,
-  (stay-dropped (plain (λ _. usize)) yes, (stay-dropped (shrSliceOf (0 ∷ []) tt (plain (λ _. u8))) yes,
-  (stay-dropped (plain (λ _. K.the-row)) yes, (gave-slice (1 ∷ []) tt (plain (λ _. u8)), tt)))),
+  (
+    stay-dropped (plain (λ _. usize)) yes,
+    (
+      stay-dropped (shrSliceOf (0 ∷ []) tt (plain (λ _. u8))) yes,
+      (stay-dropped (plain (λ _. K.the-row)) yes, (gave-slice (1 ∷ []) tt (plain (λ _. u8)), tt)),
+    ),
+  ),
 )
 
 -- the call's lifetimes, and what it is passed
@@ -291,8 +296,12 @@ module _ {M : Type 1} (𝓤 : URA M) (H : Heap 𝓤) (A : Atoms 𝓤) (W : Given
   lends =
       walk-meets 𝓤 H A (Lender Res) (stayed Res) W (
         goes-dropped 𝓤 H A W 2 (plain (λ _. Columns)) yes (λ κs x g. refl),
-        (goes-dropped 𝓤 H A W 2 (plain (λ _. usize)) yes (λ κs x g. refl),
-        (goes-dropped 𝓤 H A W 2 (shrSliceOf (0 ∷ []) tt (plain (λ _. u8))) yes (λ κs x g. refl),
-        (goes-dropped 𝓤 H A W 2 (plain (λ _. K.the-row)) yes (λ κs x g. refl), (goes-gave-slice 𝓤 H A W 2 1 tt (plain (λ _. u8)), tt)))),
+        (
+          goes-dropped 𝓤 H A W 2 (plain (λ _. usize)) yes (λ κs x g. refl),
+          (
+            goes-dropped 𝓤 H A W 2 (shrSliceOf (0 ∷ []) tt (plain (λ _. u8))) yes (λ κs x g. refl),
+            (goes-dropped 𝓤 H A W 2 (plain (λ _. K.the-row)) yes (λ κs x g. refl), (goes-gave-slice 𝓤 H A W 2 1 tt (plain (λ _. u8)), tt)),
+          ),
+        ),
       )
       clauses (WpFn 𝓤 H (𝓣 .C) (𝓣 .Λ) (lender f ty)) (WpFn-mono 𝓤 H (W .laws) 𝓣 (lender f ty)) walks

@@ -22,8 +22,7 @@ returns : tie.Need-returns
 returns c =
     let counted = c .before .before in
     let a = counted .before .before .before .args in
-    let h = sym (counted .too-many .ensures) ∙ c .before .if1 .taken in
-    (
+    let h = sym (counted .too-many .ensures) ∙ c .before .if1 .taken in (
       λ b. many-leaves length (λ (bytes : List ℕ). bytes) (a .count) (normal (firstColumns b (a .cols) (a .count))) (a .s .now) (a .cursor .at) _ (a .out .now) h
           (c .many .ensures) .0,
       λ b. many-leaves length (λ (bytes : List ℕ). bytes) (a .count) (normal (firstColumns b (a .cols) (a .count))) (a .s .now) (a .cursor .at) _ (a .out .now) h
@@ -45,8 +44,7 @@ returns-2 c =
     let wrote = c .before .before in
     let counted = wrote .before .before .before in
     let a = counted .before .before .before .args in
-    let h = sym (counted .too-many .ensures) ∙ wrote .before .before .if1 .left in
-    (
+    let h = sym (counted .too-many .ensures) ∙ wrote .before .before .if1 .left in (
       λ b. rw (few-read (a .count) (normal (firstColumns b (a .cols) (a .count))) (a .s .now) (a .cursor .at) h) (wrote .normal-lent .ensures .0 b),
       λ b. rw (few-read (a .count) (normal (firstColumns b (a .cols) (a .count))) (a .s .now) (a .cursor .at) h) (wrote .normal-lent .ensures .1 b),
     )
