@@ -10,7 +10,13 @@ use wire::Cursor;
 use wire::Wrote;
 
 // The values from a place on, in turn. It hands back how many bytes of the room they take.
-pub fn show_values(cols: [Column; 1024], count: usize, first: RowPlace, s: &[u8], room: &[u8]) -> usize {
+pub fn show_values(
+    cols: [Column; 1024],
+    count: usize,
+    first: RowPlace,
+    s: &[u8],
+    room: &[u8],
+) -> usize {
     let n = replay_list::placed(count);
     let mut place = first;
     let mut i: usize = 0;

@@ -23,11 +23,12 @@ returns : tie.Need-returns
 returns c =
     let counted = c .before .before in
     let a = counted .before .before .before .args in
+    let at = a .cursor .at in
     let h = sym (counted .too-many .ensures) ∙ c .before .if1 .taken in (
-      λ b. many-leaves (λ vs. firstPlace (a .cursor .at)) (copiedOutRow (firstColumns b (a .cols) (a .count))) (a .count) (readRow (firstColumns b (a .cols) (a .count))) (a .s .now) (a .cursor .at) _ (a .out .now) h
-          (c .many .ensures) .0,
-      λ b. many-leaves (λ vs. firstPlace (a .cursor .at)) (copiedOutRow (firstColumns b (a .cols) (a .count))) (a .count) (readRow (firstColumns b (a .cols) (a .count))) (a .s .now) (a .cursor .at) _ (a .out .now) h
-          (c .many .ensures) .1,
+      λ b. many-leaves (λ vs. firstPlace at) (copiedOutRow (firstColumns b (a .cols) (a .count))) (a .count) (readRow (firstColumns b (a .cols) (a .count)))
+          (a .s .now) at _ (a .out .now) h (c .many .ensures) .0,
+      λ b. many-leaves (λ vs. firstPlace at) (copiedOutRow (firstColumns b (a .cols) (a .count))) (a .count) (readRow (firstColumns b (a .cols) (a .count)))
+          (a .s .now) at _ (a .out .now) h (c .many .ensures) .1,
     )
 
 read-lent-requires : tie.Need-read-lent-requires
