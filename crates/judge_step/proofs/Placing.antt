@@ -8,10 +8,10 @@ use mathlib.Core.Option.{Option}
 use Prim.Native.Nat.{ℕ, _+_, _≤_}
 use native.Mathlib.Omega.{arith}
 use lib.ListN.{length, drop, length-drop}
-use Rattle.format.specs.Answer.{Read, took, stops, rule, further, mapRead, readAt}
+use Rattle.format.specs.Answer.{Read, took, stops, rule, further, mapRead}
 use Rattle.format.specs.Descriptor as D
 use Rattle.format.specs.Descriptor.{keepsRule}
-use Rattle.format.specs.Value.{Value, Family, familyOf, readFamily, readValue, copiedOut, encode}
+use Rattle.format.specs.Value.{Value, Family, familyOf, readFamily, copiedOut, encode}
 use Rattle.value_kind.proofs.ColumnLaws.{read-broken, read-kept}
 use Rattle.value_weigh.specs.Told.{Needs, needsValue, needsIn}
 use Rattle.judge_step.specs.Steps.{plusNeeds, judgeOn, Inside}
@@ -45,13 +45,11 @@ module _ (c : D.Column) (s : List ℕ) (at : ℕ) (before : Needs) (h : at ≤ l
       ∙ sym (ap (mapRead (λ (v : Value). plusNeeds before (needsValue c v))) (read-kept c s at h k declared f rest l g r)))
 
 -- a value that lies in the rest, and needs no more than it took: the row with it lies inside
-pub inside-more : (s rest : List ℕ) (at n joined normal : ℕ) (before : Needs) → Inside (length s) (took before at) → rest ≡ drop at s
-    → (n ≤ length rest) × (joined ≤ n) × (normal ≤ n)
+pub inside-more : (s : List ℕ) (at n joined normal : ℕ) (before : Needs) → Inside (length s) (took before at)
+    → (n ≤ length (drop at s)) × (joined ≤ n) × (normal ≤ n)
     → Inside (length s) (took (plusNeeds before (record { joined = joined; normal = normal })) (at + n))
-inside-more s rest at n joined normal before i r w =
-    let l : length rest ≡ length (drop at s) = ap length r in
-    let d = length-drop at s in (
-      omega (arith, l, d, i .0, w .0),
-      omega (arith, i .1, w .1),
-      omega (arith, i .2, w .2),
-    )
+inside-more s at n joined normal before i w = (
+  omega (arith, length-drop at s, i .0, w .0),
+  omega (arith, i .1, w .1),
+  omega (arith, i .2, w .2),
+)

@@ -4,10 +4,10 @@
 use mathlib.Core.Path.{_≡_, refl, sym, ap, _∙_}
 use mathlib.Core.Bool.{Bool, true, false}
 use mathlib.Core.List.{List, [], _∷_}
-use Prim.Native.Nat.{ℕ, _+_, _≤_}
+use Prim.Native.Nat.{ℕ, _+_, _<_, _≤_}
 use lib.Dec.{ltb}
 use lib.ListN.{length, drop}
-use borrow.Author.Tests.{ltb-false}
+use borrow.Author.Tests.{lt-ltb, le-ltb, ltb-false}
 use Rattle.lists.specs.Pick.{pick}
 use Rattle.format.specs.Answer.{Refusal, Read, took, stops, room, rule, mapRead, readAt, fittedRead}
 use Rattle.format.specs.Descriptor as D
@@ -23,6 +23,15 @@ use Rattle.judge_step.specs.Told.{needsOf}
 use Rattle.normal_step.specs.Steps.{fitNormal, normalValue}
 use Rattle.normal_step.proofs.Names.{at-normal}
 
+-- ---- the room's test
+
+module _ (t : Read Needs) (n : Needs) (at size : ℕ) (e : t ≡ took n at) where
+  pub fit-short : size < n .normal → stops room ≡ fitNormal t size
+  fit-short l = rw (e, lt-ltb size (n .normal) l)
+
+  pub fit-enough : n .normal ≤ size → took (n .normal) at ≡ fitNormal t size
+  fit-enough l = rw (e, le-ltb size (n .normal) l)
+
 -- ---- the answer
 
 -- a normal form that fits: the row was read
@@ -31,7 +40,8 @@ module _ (cs : List D.Column) (s : List ℕ) (at size : ℕ) where
   asked = fittedRead (λ (bytes : List ℕ). bytes) (readAt (normal cs) s at) size
 
   -- by what was read
-  asked-took : (vs : List Value) (n : ℕ) → readAt (readRow cs) s at ≡ took vs n → asked ≡ pick (ltb size (length (encodeRow cs vs))) (stops room) (took (encodeRow cs vs) n)
+  asked-took : (vs : List Value) (n : ℕ) → readAt (readRow cs) s at ≡ took vs n
+      → asked ≡ pick (ltb size (length (encodeRow cs vs))) (stops room) (took (encodeRow cs vs) n)
   unfolding fittedRead normal
   asked-took vs n e = ap (λ (r : Read (List ℕ)). fittedRead (λ (bytes : List ℕ). bytes) r size) (at-map-took (encodeRow cs) (readRow cs) s at vs n e)
 
@@ -98,7 +108,8 @@ pub record First (d : D.Column) (ds : List D.Column) (s : List ℕ) (at : ℕ) (
   pub inside : at + took-bytes ≤ length s
 
 module _ (d : D.Column) (ds : List D.Column) (s : List ℕ) (at : ℕ) (vs : List Value) (n : ℕ) where
-  rest-took : (v : Value) (m : ℕ) → readAt (consRead (readValues ds) v) s m ≡ took vs n → (os : List Value) × (readAt (readValues ds) s m ≡ took os n) × (v ∷ os ≡ vs)
+  rest-took : (v : Value) (m : ℕ) → readAt (consRead (readValues ds) v) s m ≡ took vs n
+      → (os : List Value) × (readAt (readValues ds) s m ≡ took os n) × (v ∷ os ≡ vs)
   rest-took v m h = go (readAt (readValues ds) s m) refl
     where
       go : (r : Read (List Value)) → readAt (readValues ds) s m ≡ r → (os : List Value) × (readAt (readValues ds) s m ≡ took os n) × (v ∷ os ≡ vs)

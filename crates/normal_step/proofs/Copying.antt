@@ -24,7 +24,7 @@ use Rattle.value_normal.specs.declared.Run.{Run}
 use Rattle.value_normal.specs.Runs.{held, shown, runOn, RunFits, RunGrows, Grows}
 use Rattle.value_normal.proofs.Growing.{held-length}
 use Rattle.normal_step.specs.Steps.{turnsOf, openOf, normalValue}
-use Rattle.normal_step.proofs.Answering.{asked, Answered, answered, First, first-of}
+use Rattle.normal_step.proofs.Answering.{asked, answered, First, first-of}
 
 module _ (ys : List Column) (s : List ℕ) (at : ℕ) (out₀ : List ℕ) where
   -- the columns, and those that are left at a turn
@@ -84,7 +84,8 @@ module _ (ys : List Column) (s : List ℕ) (at : ℕ) (out₀ : List ℕ) where
   abbrev here : ℕ → D.Column
   here i = columnTold [] (getD ys i noColumn)
 
-  first : (j : List ℕ) (n i : ℕ) (run : Run) (bs : List ℕ) → i < length ys → (z : Copying j n i run bs) → First (here i) (left (i + 1)) s (run .at) (z .values) n
+  first : (j : List ℕ) (n i : ℕ) (run : Run) (bs : List ℕ) → i < length ys → (z : Copying j n i run bs)
+      → First (here i) (left (i + 1)) s (run .at) (z .values) n
   first j n i run bs l z =
       let e : left i ≡ here i ∷ left (i + 1) = ap (columnsTold []) (left-at noColumn i ys l) in
       first-of (here i) (left (i + 1)) s (run .at) (z .values) n (rw e at (z .reads))
@@ -117,12 +118,11 @@ module _ (ys : List Column) (s : List ℕ) (at : ℕ) (out₀ : List ℕ) where
         → Copying j n (i + 1) next after
     turn-goes next after same g =
         let h : Grows s bs run bytes (f .took-bytes) after next = rw (f .here) at g in
-        let k : drop (next .put - run .put) (drop (run .put) bs) ≡ drop (next .put - run .put) (drop (run .put) out₀) = ap (drop (next .put - run .put)) (z .behind) in
-        let p : run .put + (next .put - run .put) ≡ next .put = omega (arith, h .onward) in
+        let m = next .put - run .put in
+        let p : run .put + m ≡ next .put = omega (arith, h .onward) in
         let q : drop (next .put) bs ≡ drop (next .put) out₀ =
-        ap (λ (m : ℕ). drop m bs) (sym p)
-        ∙ (sym (drop-drop (next .put - run .put) (run .put) bs)
-        ∙ (k ∙ (drop-drop (next .put - run .put) (run .put) out₀ ∙ ap (λ (m : ℕ). drop m out₀) p))) in
+        ap (λ (k : ℕ). drop k bs) (sym p)
+        ∙ (sym (drop-drop m (run .put) bs) ∙ (ap (drop m) (z .behind) ∙ (drop-drop m (run .put) out₀ ∙ ap (λ (k : ℕ). drop k out₀) p))) in
         record {
           values = f .others;
           reads = rw (h .passed) (f .behind);
@@ -143,9 +143,9 @@ module _ (ys : List Column) (s : List ℕ) (at : ℕ) (out₀ : List ℕ) where
   copying-asks (stops x) i run bs c l z e = absurd (omega (arith, l))
 
   -- what it leaves
-  pub copying-next : (a : Read (List ℕ)) (i : ℕ) (run next : Run) (bs after : List ℕ) (c : Column) → i < turnsOf (mapRead length a) (length ys) → Copied a i run bs
-      → c ≡ getD ys i noColumn → length after ≡ length out₀ → RunGrows s bs run (normalValue (columnTold [] c) (drop (run .at) s)) after next
-      → Copied a (i + 1) next after
+  pub copying-next : (a : Read (List ℕ)) (i : ℕ) (run next : Run) (bs after : List ℕ) (c : Column) → i < turnsOf (mapRead length a) (length ys)
+      → Copied a i run bs → c ≡ getD ys i noColumn → length after ≡ length out₀
+      → RunGrows s bs run (normalValue (columnTold [] c) (drop (run .at) s)) after next → Copied a (i + 1) next after
   copying-next (took j n) i run next bs after c l z e same g = turn-goes j n i run bs l z next after same (rw e at g)
   copying-next (stops x) i run next bs after c l z e same g = absurd (omega (arith, l))
 
@@ -170,8 +170,10 @@ module _ (ys : List Column) (s : List ℕ) (at : ℕ) (out₀ : List ℕ) where
         let c = held s run in
         let k : run .put + length c ≡ length j = omega (arith, held-length s run (z .lies) run-inside, all-counted) in
         let d : drop (run .put + length c) bs ≡ drop (length j) out₀ =
-        sym (drop-drop (length c) (run .put) bs) ∙ (ap (drop (length c)) (z .behind) ∙ (drop-drop (length c) (run .put) out₀ ∙ ap (λ (m : ℕ). drop m out₀) k)) in
-        sym (append-assoc (take (run .put) bs) c (drop (run .put + length c) bs)) ∙ (ap (λ (x : List ℕ). x ++ drop (run .put + length c) bs) all-shown ∙ ap (λ (x : List ℕ). j ++ x) d)
+        sym (drop-drop (length c) (run .put) bs)
+        ∙ (ap (drop (length c)) (z .behind) ∙ (drop-drop (length c) (run .put) out₀ ∙ ap (λ (m : ℕ). drop m out₀) k)) in
+        sym (append-assoc (take (run .put) bs) c (drop (run .put + length c) bs))
+        ∙ (ap (λ (x : List ℕ). x ++ drop (run .put + length c) bs) all-shown ∙ ap (λ (x : List ℕ). j ++ x) d)
 
   -- what copying the last run asks
   pub copying-closes : (a : Read (List ℕ)) (run : Run) (bs : List ℕ) → Copied a (turnsOf (mapRead length a) (length ys)) run bs

@@ -46,7 +46,8 @@ module _ (b : List ℕ) where
   same-values [] = refl
   same-values (c ∷ ys) =
       ap {B = List ℕ → Read (List Value)} (λ (r : List ℕ → Read Value) (s : List ℕ). thenRead r (consRead (readValues (columnsTold b ys))) s) (same-value c)
-      ∙ ap {B = List ℕ → Read (List Value)} (λ (r : List ℕ → Read (List Value)) (s : List ℕ). thenRead (readValue (columnTold [] c)) (consRead r) s) (same-values ys)
+      ∙ ap {B = List ℕ → Read (List Value)} (λ (r : List ℕ → Read (List Value)) (s : List ℕ). thenRead (readValue (columnTold [] c)) (consRead r) s)
+      (same-values ys)
 
   same-row : (ys : List Column) → readRow (columnsTold b ys) ≡ readRow (columnsTold [] ys)
   unfolding readRow

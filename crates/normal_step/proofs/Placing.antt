@@ -1,12 +1,11 @@
 -- One column's turn: a value that was read under a column was read under the column's family and declared length.
 -- Assumes nothing.
 use mathlib.Core.Path.{_≡_, refl}
-use mathlib.Core.Bool.{Bool, true, false, not}
+use mathlib.Core.Bool.{Bool, true, false}
 use mathlib.Core.List.{List}
 use mathlib.Core.Option.{Option}
 use Prim.Native.Nat.{ℕ, _<_, _^_}
-use lib.ListN.{length, drop}
-use Rattle.format.specs.Answer.{Read, took, stops}
+use lib.ListN.{length}
 use Rattle.format.specs.Descriptor as D
 use Rattle.format.specs.Descriptor.{keepsRule}
 use Rattle.format.specs.Value.{Family, familyOf, readValue, encode}

@@ -33,7 +33,8 @@ use Rattle.read_step.specs.Steps.{fitIn, turnsOf, copiedIn, placeBehind,
 -- ---- answers
 
 -- the room's test on what was judged is the room's test on the row
-fit-needs : (cs : List D.Column) (size : ℕ) (r : Read (List Value)) → fitIn (mapRead (needsOf cs) r) size ≡ mapRead (needsOf cs) (fittedRead (copiedOutRow cs) r size)
+fit-needs : (cs : List D.Column) (size : ℕ) (r : Read (List Value))
+    → fitIn (mapRead (needsOf cs) r) size ≡ mapRead (needsOf cs) (fittedRead (copiedOutRow cs) r size)
 unfolding fittedRead
 fit-needs cs size (took vs n) = go (ltb size (length (copiedOutRow cs vs)))
   where
@@ -48,7 +49,7 @@ map-twice f g (took v n) = refl
 map-twice f g (stops e) = refl
 
 -- what fits is not longer than the room
-within : (cs : List D.Column) (size : ℕ) (r : Read (List Value)) (vs : List Value) (next : ℕ) → fittedRead (copiedOutRow cs) r size ≡ took vs next
+pub within : (cs : List D.Column) (size : ℕ) (r : Read (List Value)) (vs : List Value) (next : ℕ) → fittedRead (copiedOutRow cs) r size ≡ took vs next
     → length (copiedOutRow cs vs) ≤ size
 unfolding fittedRead
 within cs size (took ws n) vs next h =
@@ -181,7 +182,8 @@ module _ (ys : List Column) (s : List ℕ) (from : ℕ) (out₀ : List ℕ) wher
     turn-goes =
         let w = within (columnsTold b ys) (length out₀) (readAt (readRow (columnsTold b ys)) s from) vs next h in
         let c = copiedOut d (one .value) in
-        let g = grown j bs out₀ c (copiedOutRow (left b (i + 1)) (one .others)) _ (p .copied) (length c) refl (z .upto) w (z .same) (z .holds) (one .copies) refl in
+        let others = copiedOutRow (left b (i + 1)) (one .others) in
+        let g = grown j bs out₀ c others _ (p .copied) (length c) refl (z .upto) w (z .same) (z .holds) (one .copies) refl in
         rw (one .read) (record {
           upto = g .room;
           same = g .same;
@@ -213,7 +215,8 @@ module _ (ys : List Column) (s : List ℕ) (from : ℕ) (out₀ : List ℕ) wher
     joining-asks b = rw at (asks b (answer b) f i p bs refl (is b) l (z b))
 
     pub joining-next : (q : Place) (after : List ℕ) → ((b : List ℕ) → (q ≡ placeBehind (columnTold b c) (readAt (readValue (columnTold b c)) s (p .at)) p)
-        × (after ≡ putAt bs (p .copied) (copiedIn (columnTold b c) (readAt (readValue (columnTold b c)) s (p .at))))) → (b : List ℕ) → Joined b (answer b) (i + 1) q after
+        × (after ≡ putAt bs (p .copied) (copiedIn (columnTold b c) (readAt (readValue (columnTold b c)) s (p .at)))))
+        → (b : List ℕ) → Joined b (answer b) (i + 1) q after
     joining-next q after g b = rw (g b .0, g b .1, at) (goes b (answer b) f i p bs refl (is b) l (z b))
 
   -- behind the last turn
@@ -237,8 +240,8 @@ module _ (ys : List Column) (s : List ℕ) (from : ℕ) (out₀ : List ℕ) wher
           z .holds ∙ front-end j (p .copied) out₀ (z .upto) (sym m)
   ends b (stops r) f i p bs e l z = z
 
-  pub joining-ends : (f : Read Needs) → ((b : List ℕ) → f ≡ mapRead (needsOf (columnsTold b ys)) (answer b)) → (i : ℕ) (p : Place) (bs : List ℕ) → i ≡ turnsOf f n
-      → ((b : List ℕ) → Joined b (answer b) i p bs) → (b : List ℕ) → bs ≡ roomAfterRead (copiedOutRow (columnsTold b ys)) (answer b) out₀
+  pub joining-ends : (f : Read Needs) → ((b : List ℕ) → f ≡ mapRead (needsOf (columnsTold b ys)) (answer b)) → (i : ℕ) (p : Place) (bs : List ℕ)
+      → i ≡ turnsOf f n → ((b : List ℕ) → Joined b (answer b) i p bs) → (b : List ℕ) → bs ≡ roomAfterRead (copiedOutRow (columnsTold b ys)) (answer b) out₀
   joining-ends f is i p bs l z b = ends b (answer b) f i p bs (is b) l (z b)
 
   -- the room keeps its length

@@ -23,7 +23,7 @@ use Rattle.format.proofs.Place.{past, took-at}
 use Rattle.value_kind.proofs.ColumnLaws.{read-kept}
 use Rattle.value_found.specs.Told.{foundBehind, roomBehind}
 use Rattle.read_step.specs.Told.{Place}
-use Rattle.read_step.specs.Steps.{inRoom, roomCount, copiedIn, nextIn, placeBehind, FitsAt}
+use Rattle.read_step.specs.Steps.{inRoom, roomCount, copiedIn, placeBehind, FitsAt}
 
 -- what was found says how many bytes were copied out
 module _ (c : D.Column) (at copied : ℕ) where
@@ -118,5 +118,6 @@ module _ (c : D.Column) (s out : List ℕ) (at copied : ℕ) (fits : FitsAt c (r
           let e : next ≡ there .next = cc (h ∙ found-there) in
           rw (there .read, e, count-there)
 
-    pub room-holds : (after : List ℕ) → after ≡ roomBehind c (readFamily declared f rest) at copied out → after ≡ putAt out copied (copiedIn c (readAt (readValue c) s at))
+    pub room-holds : (after : List ℕ) → after ≡ roomBehind c (readFamily declared f rest) at copied out
+        → after ≡ putAt out copied (copiedIn c (readAt (readValue c) s at))
     room-holds after h = h ∙ (room-there ∙ rw (there .read))

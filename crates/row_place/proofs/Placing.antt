@@ -13,7 +13,7 @@ use lib.Dec.{ltb}
 use lib.ListN.{length, take, drop, length-drop}
 use lib.Seq.{length-take-le}
 use borrow.Author.Tests.{lt-ltb, le-ltb}
-use Rattle.format.specs.Answer.{Refusal, room, missing, rule, Read, took, stops, further, mapRead, readAt, fittedRead}
+use Rattle.format.specs.Answer.{Refusal, room, missing, rule, Read, took, stops, mapRead, readAt, fittedRead}
 use Rattle.format.specs.Descriptor as D
 use Rattle.format.specs.Scalar.{Scalar}
 use Rattle.format.specs.Plp.{readPlp}
@@ -38,7 +38,8 @@ module _ (c : D.Column) (at copied : ℕ) where
   left = mostRoom - copied
 
   -- a value that copies nothing
-  kept : (v : Value) (n : ℕ) → copiedOut c v ≡ [] → took (record { found = F.foundOf c at copied v; copied = copied }) (at + n) ≡ placedBehind c (took v n) at copied
+  kept : (v : Value) (n : ℕ) → copiedOut c v ≡ []
+      → took (record { found = F.foundOf c at copied v; copied = copied }) (at + n) ≡ placedBehind c (took v n) at copied
   unfolding fittedRead
   kept v n e =
       let t : ltb left 0 ≡ false = le-ltb left 0 (omega arith) in
@@ -58,7 +59,8 @@ module _ (c : D.Column) (at copied : ℕ) where
 
   -- content behind the two length bytes
   pub part-placed : isPlp c ≡ false → (r : Read Value) (k : ContentKind) (rest : List ℕ) (start count : ℕ) → start ≡ 2 → start + count ≤ length rest
-      → took (contentValue k (some (take count (drop start rest)))) (start + count) ≡ r → (found : F.Found) → found ≡ contentFound k (F.inInput (at + start) count)
+      → took (contentValue k (some (take count (drop start rest)))) (start + count) ≡ r
+      → (found : F.Found) → found ≡ contentFound k (F.inInput (at + start) count)
       → took (record { found = found; copied = copied }) (at + (start + count)) ≡ placedBehind c r at copied
   part-placed t r k rest start count two inside e found is =
       let s = take count (drop start rest) in

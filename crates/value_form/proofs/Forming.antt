@@ -7,20 +7,19 @@ use mathlib.Core.Bool.{Bool, true, false}
 use mathlib.Core.List.{List, [], _∷_, _++_}
 use mathlib.Core.Option.{Option, none, some}
 use Prim.Native.Nat.{ℕ, zero, suc, _+_, _^_, _<_, _≤_}
-use native.Mathlib.Nat.{add-zero, add-comm}
+use native.Mathlib.Nat.{add-comm}
 use native.Mathlib.Numerals.{add-one}
 use native.Mathlib.Omega.{arith}
 use lib.Dec.{ltb, eqb}
-use lib.ListN.{length, getD, take, drop, length-drop}
+use lib.ListN.{length, getD, take, drop}
 use lib.Seq.{take-suc, drop-cons, take-add, length-take-le}
 use borrow.Author.Tests.{le-ltb, ltb-false, eq-eqb, ne-eqb, eqb-true}
-use Rattle.lists.specs.Pick.{pick}
 use Rattle.lists.proofs.Split.{split, clash}
-use Rattle.format.specs.Answer.{Refusal, missing, Read, took, stops, stopIf, further, thenRead, mapRead}
+use Rattle.format.specs.Answer.{Read, took, stops, further, thenRead, mapRead}
 use Rattle.format.specs.Number.{lowNat, lowBytes, signed, unsigned, readByte, readLow, readBytes}
 use Rattle.format.specs.Scalar.{Kind, width, kindOf, scalarOf, scalarBytes, readScalar, isOneOf}
 use Rattle.format.specs.Plp.{plpMark, isOdd, readPlp, plpBytes}
-use Rattle.format.specs.Value.{Value, ContentKind, Family, fixedWidth, lengthByte, content, isText, contentValue, ofWidth, readWidth, readLengthByte}
+use Rattle.format.specs.Value.{Value, ContentKind, fixedWidth, lengthByte, content, isText, contentValue, ofWidth, readWidth}
 use Rattle.format.specs.Value.{shortNull, readShort, encodeFamily}
 use Rattle.format.proofs.Number.{Bytes, low-forth, low-lt, signed-forth}
 use Rattle.format.proofs.Answer.{no-truth}
@@ -30,11 +29,6 @@ use Rattle.value_kind.specs.declared.kinds.Listed.{Listed}
 use Rattle.value_kind.specs.declared.kinds.Listed.the-variants as L
 use Rattle.value_kind.specs.Told.{listedTold}
 use Rattle.value_form.specs.Told.{normalIn, IsRead}
-
--- a check that was passed, of what is there
-passed : {A B : Type 0} (f : A → B) (b : Bool) (e : Refusal) (r : Read A) → IsRead (mapRead f (stopIf b e r)) → b ≡ false
-passed f true e r i = absurd i
-passed f false e r i = refl
 
 -- ---- scalars
 
@@ -122,7 +116,8 @@ module _ (k : Kind) (s : List ℕ) (d : ℕ) where
         let f = scalar-forth k (take (width k) s) n (bytes-take (width k) s b) (length-take-le (width k) s h) in
         ap (λ (l : List ℕ). took l (width k)) (sym f) ∙ fixed-bytes
 
-pub fixed-bit : (k : Kind) (s : List ℕ) (d : ℕ) → k ≡ Kind.bit → 0 < length s → took (scalarBytes (scalarOf Kind.bit (take 1 s))) 1 ≡ normalIn d (some (fixedWidth k)) s
+pub fixed-bit : (k : Kind) (s : List ℕ) (d : ℕ) → k ≡ Kind.bit → 0 < length s
+    → took (scalarBytes (scalarOf Kind.bit (take 1 s))) 1 ≡ normalIn d (some (fixedWidth k)) s
 fixed-bit k s d e h = rw e (fixed-bytes Kind.bit s d h)
 
 -- ---- behind a length byte

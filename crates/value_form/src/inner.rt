@@ -2,7 +2,7 @@
 // repository: a row was judged before, so nothing is judged here.
 ghost use mathlib.Core.Path.{_≡_};
 ghost use mathlib.Core.Bool.{false};
-ghost use mathlib.Core.List.{[], _∷_, _++_};
+ghost use mathlib.Core.List.{_++_};
 ghost use mathlib.Core.Option.{some};
 ghost use Prim.Native.Nat.{ℕ, _+_, _<_};
 ghost use lib.Dec.{eqb};
@@ -81,7 +81,8 @@ fn content(k: ContentKind, declared: u32, rest: &[u8]) -> Form
     ensures { λ r. ⌜ formTold (now (rest .entry)) r ≡ normalIn declared (some (content (contentKindTold k))) (now (rest .entry)) ⌝ }
 {
     if content::is_plp(declared) {
-        return Form::Plp(family::is_text(k));
+        let text = family::is_text(k);
+        return Form::Plp(text);
     }
     short(k, declared, rest)
 }

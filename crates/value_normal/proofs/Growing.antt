@@ -3,7 +3,7 @@
 -- next run is empty.
 -- Assumes nothing.
 use mathlib.Core.Path.{_≡_, refl, sym, ap, _∙_}
-use mathlib.Core.List.{List, [], _∷_, _++_, append-assoc, append-nil}
+use mathlib.Core.List.{List, _++_, append-assoc, append-nil}
 use Prim.Native.Nat.{ℕ, _+_, _-_, _≤_}
 use native.Mathlib.Omega.{arith}
 use lib.ListN.{length, take, drop, length-append, length-drop}
@@ -36,7 +36,9 @@ module _ (s out : List ℕ) (r : Run) (n : ℕ) (l : r .from ≤ r .at) (i : r .
   grows-same =
       let c = length-take-le n (drop (r .at) s) (omega (arith, length-drop (r .at) s)) in
       record {
-        shows = ap (λ (x : List ℕ). take (r .put) out ++ x) (held-more s (r .from) (r .at) n l) ∙ sym (append-assoc (take (r .put) out) (held s r) (take n (drop (r .at) s)));
+        shows =
+            ap (λ (x : List ℕ). take (r .put) out ++ x) (held-more s (r .from) (r .at) n l)
+            ∙ sym (append-assoc (take (r .put) out) (held s r) (take n (drop (r .at) s)));
         behind = refl;
         onward = omega arith;
         passed = refl;

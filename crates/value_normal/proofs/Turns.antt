@@ -1,6 +1,6 @@
 -- A value's turn by its form: bytes that are the normal form already lengthen the run; of a bit above 1 the bytes before it are the run's, and a 1 is stored.
 -- Assumes nothing.
-use mathlib.Core.Path.{_≡_, refl, sym, ap, _∙_, subst}
+use mathlib.Core.Path.{_≡_, sym, ap, _∙_, subst}
 use mathlib.Core.List.{List, [], _∷_, _++_, append-assoc}
 use Prim.Native.Nat.{ℕ, _+_, _-_, _<_, _≤_}
 use native.Mathlib.Omega.{arith}
@@ -54,4 +54,5 @@ module _ (s out : List ℕ) (run : Run) (v : Read (List ℕ)) (f : RunFits s (le
         let put : run .put + (run .at + start - run .from) + 1 ≡ run .put + (run .at - run .from) + length bytes = omega (arith, g .0, bit-length) in
         let at : run .at + start + 1 ≡ run .at + (start + 1) = omega arith in
         let r = grows-put s out run (start + 1) (g .0) (g .1) bytes after _ (g .2) (q ∙ ap (sets out (run .put)) h) put in
-        rw (← e) (subst (RunGrows s out run (took bytes (start + 1)) after) (ap (λ (k : ℕ). runOn k (run .put + (run .at + start - run .from) + 1)) (sym at) ∙ sym p) r)
+        let same : runOn (run .at + (start + 1)) (run .put + (run .at + start - run .from) + 1) ≡ next = rw (← at) (sym p) in
+        rw (← e) (subst (RunGrows s out run (took bytes (start + 1)) after) same r)

@@ -48,12 +48,12 @@ pub fn weigh(f: Family, declared: u32, rest: &[u8]) -> Weighed
     match seen {
         Seen::Null(n) => Weighed::Fine(n, 0, n),
         Seen::Scalar(k, at) => {
-            let n = at + kinds::bytes_of(k);
-            Weighed::Fine(n, 0, n)
+            let wide = at + kinds::bytes_of(k);
+            Weighed::Fine(wide, 0, wide)
         }
         Seen::Part(_, start, count) => {
-            let n = start + count;
-            Weighed::Fine(n, 0, n)
+            let long = start + count;
+            Weighed::Fine(long, 0, long)
         }
         Seen::Plp(k) => weigh_plp(k, rest),
         Seen::Refused(e) => Weighed::Refused(e),

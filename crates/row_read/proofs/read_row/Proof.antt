@@ -1,7 +1,7 @@
--- `row_read::read_row` meets its contract: a walk of its MIR, by hand. The row is judged and the room's test comes first, then a loop over the columns that lends
--- `out` again to the covered step in each turn; the walk knows nothing of what a step does but its contract.
--- The loop's invariant is `Joined` of read_step: the room holds the first bytes of what the row copies out, and what is left copies the others; where the row is
--- refused or copies nothing there is no turn. What the list and the input own is had twice for each call, one copy is passed and the other kept; what plain
+-- `row_read::read_row` meets its contract: a walk of its MIR, by hand. The row is judged and the room's test comes first, then a loop over the columns that
+-- lends `out` again to the covered step in each turn; the walk knows nothing of what a step does but its contract.
+-- The loop's invariant is `Joined` of read_step: the room holds the first bytes of what the row copies out, and what is left copies the others; where the row
+-- is refused or copies nothing there is no turn. What the list and the input own is had twice for each call, one copy is passed and the other kept; what plain
 -- values own are facts, made anew.
 -- Assumes nothing.
 use mathlib.Core.Path.{_≡_, refl, sym, _∙_, ap, subst}
@@ -391,8 +391,8 @@ module _ {M : Type 1} (𝓤 : URA M) (H : Heap 𝓤) (A : Atoms 𝓤) (W : Given
       (placeTold r ≡ placeBehind (columnTold names c) (readAt (readValue (columnTold names c)) bytes (p .cursor .at)) (placeTold p))
       × (last ≡ putAt bs (p .copied) (copiedIn (columnTold names c) (readAt (readValue (columnTold names c)) bytes (p .cursor .at))))
 
-  goes-join : (ν : ℕ) (δ : GName) (bs : List ℕ) (c : Column) (w : Val) (p : RowPlace) (u : Val) → Is T.the-row c (w ∷ []) → Is P.the-row p (u ∷ []) → Asked bs c p
-      → ent 𝓤 (⋆ 𝓤 H A ((‵ tZ ⊛ ‵ OwnZ) ∷ (‵ (flft (ν ∷ []) fullShare) ⊛ ‵ (Lent ν δ bs (length bs₀))) ∷ []))
+  goes-join : (ν : ℕ) (δ : GName) (bs : List ℕ) (c : Column) (w : Val) (p : RowPlace) (u : Val) → Is T.the-row c (w ∷ [])
+      → Is P.the-row p (u ∷ []) → Asked bs c p → ent 𝓤 (⋆ 𝓤 H A ((‵ tZ ⊛ ‵ OwnZ) ∷ (‵ (flft (ν ∷ []) fullShare) ⊛ ‵ (Lent ν δ bs (length bs₀))) ∷ []))
       (sep 𝓤 (JoinOn 𝓤 H A mem run .pre (to-join ν δ bs c w p u)) (sem 𝓤 H A OwnZ))
   goes-join ν δ bs c w p u isc iss l =
       qed W ((‵ tZ ⊛ ‵ OwnZ) ∷ (‵ (flft (ν ∷ []) fullShare) ⊛ ‵ (Lent ν δ bs (length bs₀))) ∷ []) ∵
@@ -658,7 +658,8 @@ module _ {M : Type 1} (𝓤 : URA M) (H : Heap 𝓤) (A : Atoms 𝓤) (W : Given
           rewrite ! 20 (λ (c : Val). ‵ (fat fullShare word l₇ 0 c)) (turns-are f k w j isk) refl $
           -- `first(cursor)`
           use0 W (raw (First 𝓤 H A mem run .pre to-first)) goes-first $
-          calls-at ! (fmOf 𝓤 H (W .laws) 𝓣) (First 𝓤 H A mem run) known-first to-first (and-then ! (load ! (from ! (stop !)) (look ! 29 refl)) (no-more !)) (λ u.
+          calls-at ! (fmOf 𝓤 H (W .laws) 𝓣) (First 𝓤 H A mem run) known-first to-first
+          (and-then ! (load ! (from ! (stop !)) (look ! 29 refl)) (no-more !)) (λ u.
           use1 W (later (some (λ (p : RowPlace). (‵ ftrue ⊛ ‵ (P.the-row .own p (u ∷ []))) ⊛
           raw (ensured 𝓤 H A begin.ended (begin.clauses 𝓤 H A mem run) tt (place₀, tt) tt p)))) (id⊢ 𝓤 _) $ await ! tt $ pick ! (λ p.
           split ! $ move ! (1 ∷ []) $ use1 W (raw (fact 𝓤 (Is-first p))) (first-said p) $ heard ! (Is-first p) (λ g. split ! $ drop ! $

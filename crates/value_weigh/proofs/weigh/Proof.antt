@@ -35,8 +35,8 @@ enum-known-seen-2 c = search needs
 bytes-of-requires : tie.Need-bytes-of-requires
 bytes-of-requires c κs = search needs
 
-add-n : tie.Need-add-n
-add-n c =
+add-wide : tie.Need-add-wide
+add-wide c =
     let seen = c .before .before in
     let look = seen .before .before in
     omega (arith, start look .good, c .bytes-of .ensures, lies look _ (seen .seen2 .given .1))
@@ -44,8 +44,8 @@ add-n c =
 enum-known-seen-3 : tie.Need-enum-known-seen-3
 enum-known-seen-3 c = search needs
 
-add-n-2 : tie.Need-add-n-2
-add-n-2 c =
+add-long : tie.Need-add-long
+add-long c =
     let seen = c .before in
     let look = seen .before .before in
     omega (arith, start look .good, lies look _ (seen .seen3 .given .1) .1)
@@ -117,9 +117,9 @@ weigh-spec =
     enum-known-seen
     enum-known-seen-2
     bytes-of-requires
-    add-n
+    add-wide
     enum-known-seen-3
-    add-n-2
+    add-long
     enum-known-seen-4
     weigh-plp-requires
     enum-known-seen-5

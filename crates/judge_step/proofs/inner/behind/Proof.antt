@@ -3,9 +3,9 @@
 use mathlib.Core.Path.{_≡_, refl, sym, ap, _∙_}
 use mathlib.Core.Bool.{true}
 use mathlib.Core.List.{List}
-use Prim.Native.Nat.{ℕ, _+_}
+use Prim.Native.Nat.{ℕ, _+_, _≤_}
 use native.Mathlib.Omega.{arith}
-use lib.ListN.{length}
+use lib.ListN.{length, drop, length-drop}
 use Rattle.lists.proofs.Lent.{rest-is}
 use Rattle.format.specs.Answer.{took}
 use Rattle.format.specs.Descriptor.{keepsRule}
@@ -13,7 +13,7 @@ use Rattle.column_type.specs.Told.{columnTold}
 use Rattle.value_kind.proofs.ColumnLaws.{length-fits}
 use Rattle.value_weigh.specs.declared.Weighed.{Weighed}
 use Rattle.value_weigh.specs.Told.{Needs, weighedTold}
-use Rattle.judge_step.specs.Steps.{plusNeeds, judgeOn, Inside}
+use Rattle.judge_step.specs.Steps.{judgeOn}
 use Rattle.judge_step.proofs.Placing.{onWeighed, judged-rule, judged-weighed, inside-more}
 use borrow.Author.Needs.{needs}
 use Rattle.judge_step.proofs.inner.behind.Statement.{statement}
@@ -52,17 +52,27 @@ told c w e b =
     ∙ judged-weighed (columnTold b (a .c)) (a .s .now) (a .row .next .at) (sum z) (z .pre .0) (keeps (kept c) b) _ _ _ _ refl
     (c .before .before .before .family-of .ensures) (rest-is (a .s .now) (a .row .next .at)) (c .weigh .ensures .0)
 
--- the row with the value lies inside
-row-inside : (c : tie.After-weighed) →
-    let z = start (kept (c .before .before)) in
+-- the value lies in the rest, and needs no more than it took
+within : (c : tie.After-weighed) →
     let w = c .weighed .given .0 in
-    Inside (length (z .args .s .now)) (took (plusNeeds (sum z) (record { joined = w .1 .0; normal = w .1 .1 .0 })) (z .args .row .next .at + w .0))
-row-inside c =
+    let z = start (kept (c .before .before)) in
+    (w .0 ≤ length (drop (z .args .row .next .at) (z .args .s .now))) × (w .1 .0 ≤ w .0) × (w .1 .1 .0 ≤ w .0)
+within c =
     let weigh = c .before .before in
-    let z = start (kept weigh) in
-    let a = z .args in
-    let within = rw (c .weighed .given .1) at (weigh .weigh .ensures .1) in
-    inside-more (a .s .now) _ (a .row .next .at) _ _ _ (sum z) (z .pre) (rest-is (a .s .now) (a .row .next .at)) within
+    let a = start (kept weigh) .args in
+    let h = rw (c .weighed .given .1) at (weigh .weigh .ensures .1) in
+    rw (rest-is (a .s .now) (a .row .next .at)) at h
+
+-- the sums fit
+sum-most : (c : tie.After-weighed) →
+    let w = c .weighed .given .0 in
+    let z = start (kept (c .before .before)) in
+    (z .args .row .next .at + w .0 ≤ length (z .args .s .now)) × (w .1 .0 ≤ w .0) × (w .1 .1 .0 ≤ w .0)
+    × (z .args .row .joined ≤ z .args .row .next .at) × (z .args .row .normal ≤ z .args .row .next .at)
+sum-most c =
+    let w = within c in
+    let z = start (kept (c .before .before)) in
+    (omega (arith, w .0, z .pre .0, length-drop (z .args .row .next .at) (z .args .s .now)), w .1, w .2, z .pre .1, z .pre .2)
 
 keeps-rule-requires : tie.Need-keeps-rule-requires
 keeps-rule-requires c κs = search needs
@@ -86,25 +96,29 @@ enum-known-weighed : tie.Need-enum-known-weighed
 enum-known-weighed c = search needs
 
 add-t18 : tie.Need-add-t18
-add-t18 c = let weighed = c .before in record { fits = omega (arith, row-inside weighed .0, start (kept (weighed .before .before)) .good) }
+add-t18 c =
+    let weighed = c .before in
+    let m = sum-most weighed in
+    record { fits = omega (arith, m .0, m .1, m .2, start (kept (weighed .before .before)) .good) }
 
 add-t20 : tie.Need-add-t20
 add-t20 c =
     let weighed = c .before .before in
-    let i = row-inside weighed in
-    record { fits = omega (arith, i .0, i .1, start (kept (weighed .before .before)) .good) }
+    let m = sum-most weighed in
+    record { fits = omega (arith, m .0, m .1, m .2, m .3, m .4, start (kept (weighed .before .before)) .good) }
 
 add-t21 : tie.Need-add-t21
 add-t21 c =
     let weighed = c .before .before .before in
-    let i = row-inside weighed in
-    record { fits = omega (arith, i .0, i .2, start (kept (weighed .before .before)) .good) }
+    let m = sum-most weighed in
+    record { fits = omega (arith, m .0, m .1, m .2, m .3, m .4, start (kept (weighed .before .before)) .good) }
 
 returns : tie.Need-returns
 returns c =
     let weighed = c .before .before .before in
     let weigh = weighed .before .before in
-    (λ b. told weigh _ (weighed .weighed .given .1) b, row-inside weighed)
+    let z = start (kept weigh) in
+    (λ b. told weigh _ (weighed .weighed .given .1) b, inside-more (z .args .s .now) (z .args .row .next .at) _ _ _ (sum z) (z .pre) (within weighed))
 
 enum-known-weighed-2 : tie.Need-enum-known-weighed-2
 enum-known-weighed-2 c = search needs

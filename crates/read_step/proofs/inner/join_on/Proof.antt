@@ -2,7 +2,7 @@
 -- since the value is there and its content fits. Assumes nothing.
 use mathlib.Core.Path.{_≡_, refl, sym, ap, _∙_}
 use mathlib.Core.List.{List, []}
-use Prim.Native.Nat.{ℕ, _+_, _-_, _≤_}
+use Prim.Native.Nat.{ℕ, _≤_}
 use native.Mathlib.Omega.{arith}
 use lib.ListN.{length, length-drop}
 use Rattle.lists.proofs.Lent.{rest-is}
@@ -67,25 +67,13 @@ read-in-requires : tie.Need-read-in-requires
 read-in-requires c κs =
     let z = start (c .before .before .before) in
     let l = ap length (rest-is (z .args .s .now) (z .args .place .cursor .at)) in
-    (omega (arith, z .good, inside z, l, length-drop (z .args .place .cursor .at) (z .args .s .now)), room z)
+    (omega (arith, z .good, inside z, l, length-drop (z .args .place .cursor .at) (z .args .s .now)), omega (arith, room z))
 
 enum-known-read : tie.Need-enum-known-read
 enum-known-read c = search needs
 
 copied-of-requires : tie.Need-copied-of-requires
 copied-of-requires c κs = search needs
-
-add-t21 : tie.Need-add-t21
-add-t21 c =
-    let read = c .before .before in
-    let call = read .before .before .before .before in
-    let z = start (named call) in
-    let a = z .args in
-    let f = named call .family-of .ensures in
-    let r = rest-is (a .s .now) (a .place .cursor .at) in
-    let e = told call _ (read .read .given .1) [] in
-    let m = count-fits (column z []) (a .s .now) (a .out .now) (a .place .cursor .at) (a .place .copied) (z .pre []) _ _ _ refl f r _ _ e in
-    record { fits = omega (arith, m, c .copied-of .ensures, z .good) }
 
 enum-told : tie.Need-enum-told
 enum-told c = search needs
@@ -105,7 +93,8 @@ returns c =
     let d = column z b in
     let e = told call _ (read .read .given .1) b in
     let p = place-there d (a .s .now) (a .out .now) (a .place .cursor .at) (a .place .copied) (z .pre b) _ _ _ refl f r _ _ e in
-    let w = room-holds d (a .s .now) (a .out .now) (a .place .cursor .at) (a .place .copied) (z .pre b) _ _ _ refl f r _ (call .read-in .ensures .1 .1 d refl) in
+    let g = call .read-in .ensures .1 .1 d refl in
+    let w = room-holds d (a .s .now) (a .out .now) (a .place .cursor .at) (a .place .copied) (z .pre b) _ _ _ refl f r _ g in
     (rw (c .copied-of .ensures) p, w)
 
 same-length-2 : tie.Need-same-length-2
@@ -120,6 +109,18 @@ returns-2 c =
     let r = rest-is (a .s .now) (a .place .cursor .at) in
     let e = told call _ (c .enum-told .given .1) [] in
     not-refused (column z []) (a .s .now) (a .out .now) (a .place .cursor .at) (a .place .copied) (z .pre []) _ _ _ refl f r _ e
+
+add-t21 : tie.Need-add-t21
+add-t21 c =
+    let read = c .before .before in
+    let call = read .before .before .before .before in
+    let z = start (named call) in
+    let a = z .args in
+    let f = named call .family-of .ensures in
+    let r = rest-is (a .s .now) (a .place .cursor .at) in
+    let e = told call _ (read .read .given .1) [] in
+    let m = count-fits (column z []) (a .s .now) (a .out .now) (a .place .cursor .at) (a .place .copied) (z .pre []) _ _ _ refl f r _ _ e in
+    record { fits = omega (arith, m, c .copied-of .ensures, z .good) }
 
 pub join-on-spec : {M : Type 1} → statement M
 join-on-spec =

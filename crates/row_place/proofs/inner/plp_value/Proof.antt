@@ -1,6 +1,5 @@
 -- `row_place::inner::plp_value` meets its contract: what was judged of the heads, told of a value behind what was copied before. Assumes nothing.
 use mathlib.Core.Path.{_≡_, sym, ap, _∙_}
-use Prim.Native.Nat.{_+_, _≤_}
 use native.Mathlib.Omega.{arith}
 use Rattle.format.specs.Answer.{mapRead}
 use Rattle.format.specs.Plp.{readPlp}

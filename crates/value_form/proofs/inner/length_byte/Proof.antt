@@ -1,5 +1,5 @@
 -- `value_form::inner::length_byte` meets its contract: the length and the bytes as they came, but for a bit. Assumes nothing.
-use mathlib.Core.Path.{_≡_, sym, ap, _∙_}
+use mathlib.Core.Path.{_≡_, sym, _∙_}
 use Prim.Native.Nat.{ℕ, _<_}
 use native.Mathlib.Omega.{arith}
 use mathlib.Core.Option.{some}

@@ -1,6 +1,5 @@
 -- `value_form::inner::short` meets its contract: the length and the content as they came. Assumes nothing.
 use native.Mathlib.Omega.{arith}
-use mathlib.Core.Path.{_≡_}
 use Prim.Native.Nat.{_≤_}
 use lib.ListN.{length}
 use Rattle.format.proofs.Number.{Bytes}

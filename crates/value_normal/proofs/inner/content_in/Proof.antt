@@ -1,11 +1,12 @@
 -- `value_normal::inner::content_in` meets its contract: the run is copied, and the chunks joined are put behind it in the one form. Assumes nothing.
 use mathlib.Core.Path.{_≡_, refl, ap, _∙_}
 use mathlib.Core.List.{List}
-use mathlib.Core.Option.{some}
+use mathlib.Core.Option.{Option, some}
 use Prim.Native.Nat.{ℕ, _+_, _-_, _≤_}
 use native.Mathlib.Omega.{arith}
 use lib.ListN.{length, drop}
 use Rattle.lists.proofs.Lent.{rest-is}
+use Rattle.format.specs.Answer.{Read}
 use Rattle.format.specs.Plp.{readPlp, plpBytes}
 use Rattle.format.proofs.Plain.{bytes-drop}
 use Rattle.value_kind.proofs.ContentLaws.{span-count}
@@ -19,9 +20,13 @@ use Rattle.value_normal.proofs.inner.content_in.Tie as tie
 abbrev start : tie.After-close-run → tie.Start
 start c = c .before .before .before .before
 
+-- what was read
+abbrev value : tie.Start → Read (Option (List ℕ))
+value c = readPlp (c .args .text) (drop (c .args .run .at) (c .args .s .now))
+
 -- what was judged
-judged : (c : tie.Start) → let a = c .args in ContentFits (a .s .now) (length (a .out .now)) (a .run) (readPlp (a .text) (drop (a .run .at) (a .s .now))) (a .count) (a .end)
-judged c = let a = c .args in content-fits (a .s .now) (length (a .out .now)) (a .run) (readPlp (a .text) (drop (a .run .at) (a .s .now))) (a .count) (a .end) (c .pre .0) (c .pre .1)
+judged : (c : tie.Start) → let a = c .args in ContentFits (a .s .now) (length (a .out .now)) (a .run) (value c) (a .count) (a .end)
+judged c = let a = c .args in content-fits (a .s .now) (length (a .out .now)) (a .run) (value c) (a .count) (a .end) (c .pre .0) (c .pre .1)
 
 -- how many bytes the form has
 size : (c : tie.After-formed) → let a = start (c .before .before .before) .args in
@@ -107,7 +112,7 @@ returns c =
     let a = began .args in
     let o = closed .close-run .result in
     let ys = put .put-plp .ensures ∙ ap (λ (l : List ℕ). plpBytes (some (contentOf (a .text) l))) (rest-is (a .s .now) (a .run .at)) in
-    content-grows (a .s .now) (a .out .now) _ _ _ (a .run) (readPlp (a .text) (drop (a .run .at) (a .s .now))) (a .count) (a .end) o _ (judged began)
+    content-grows (a .s .now) (a .out .now) _ _ _ (a .run) (value began) (a .count) (a .end) o _ (judged began)
     (closed .close-run .ensures .1) (closed .close-run .ensures .0) (ap (λ (k : ℕ). o + k) (size formed)) ys refl
 
 pub content-in-spec : {M : Type 1} → statement M

@@ -1,5 +1,5 @@
 -- `value_normal::inner::normal_in` meets its contract: by the value's form. Assumes nothing.
-use mathlib.Core.Path.{_≡_, sym, ap, _∙_}
+use mathlib.Core.Path.{_≡_}
 use mathlib.Core.List.{List}
 use Prim.Native.Nat.{ℕ, _≤_}
 use native.Mathlib.Omega.{arith}
@@ -58,7 +58,9 @@ add-t16 c =
     let formed = known .before .before in
     let began = start formed in
     let a = began .args in
-    omega (arith, same-inside (a .s .now) (a .out .now) (a .run) (value began) (began .pre) (known .form2 .given .0 .0) (told formed _ (known .form2 .given .1)), began .good)
+    let n = known .form2 .given .0 .0 in
+    let e = told formed _ (known .form2 .given .1) in
+    omega (arith, same-inside (a .s .now) (a .out .now) (a .run) (value began) (began .pre) n e, began .good)
 
 enum-known-form-2 : tie.Need-enum-known-form-2
 enum-known-form-2 c = search needs
@@ -69,7 +71,9 @@ add-bit-in c =
     let formed = known .before .before in
     let began = start formed in
     let a = began .args in
-    omega (arith, bit-asks (a .s .now) (a .out .now) (a .run) (value began) (began .pre) (known .form3 .given .0 .0) (told formed _ (known .form3 .given .1)) .1, began .good)
+    let n = known .form3 .given .0 .0 in
+    let e = told formed _ (known .form3 .given .1) in
+    omega (arith, bit-asks (a .s .now) (a .out .now) (a .run) (value began) (began .pre) n e .1, began .good)
 
 bit-in-requires : tie.Need-bit-in-requires
 bit-in-requires c κs =

@@ -1,0 +1,3 @@
+pub mod Decided
+pub mod Accepted
+pub mod More
