@@ -1,10 +1,10 @@
--- A function that lends the first columns of its array to a call `f(cols, s, cursor, out)` promises of them what the call promises of a lent list. Once for every
--- such call, whatever it answers and whatever it promises:
+-- A function that lends the first columns of its array to a call `f(cols, s, cursor, out)` promises of them what the call promises of a lent list. Once for
+-- every such call, whatever it answers and whatever it promises:
 --     Call, Lender     the two signatures, for a result of any type
 --     lender f ty      the function's MIR: `f(&cols[..count], s, cursor, out)`, whose result has the MIR type ty
 --     lends            where f meets its clauses, the function meets those that follow from them, for a count of at most 1,024
--- Why it holds: a walk of that MIR. The first columns are lent for a lifetime that is made for the call (`held`'s `Arrays`); the input, the cursor and the room are
--- handed on as they came, and so is what the call says of the room at its end.
+-- Why it holds: a walk of that MIR. The first columns are lent for a lifetime that is made for the call (`held`'s `Arrays`); the input, the cursor and the
+-- room are handed on as they came, and so is what the call says of the room at its end.
 -- Assumes `Given`.
 use mathlib.Core.Path.{_≡_, refl}
 use Prim.Native.Nat.{ℕ, _≤_, _<_, _^_}
@@ -72,8 +72,8 @@ Lender Res = record {
   signature = record {
     lifetimes = 2;
     outlives = [];
-    params = ArrayOf (plain (λ _. T.the-row)) (λ _. tt) 1024 ∷ plain (λ _. usize) ∷ SliceRefOf (0 ∷ []) tt (plain (λ _. u8)) (λ _. tt) ∷ plain (λ _. K.the-row) ∷
-        SliceRefMutOf (1 ∷ []) tt (plain (λ _. u8)) (λ _. tt) ∷ [];
+    params = ArrayOf (plain (λ _. T.the-row)) (λ _. tt) 1024 ∷ plain (λ _. usize) ∷ SliceRefOf (0 ∷ []) tt (plain (λ _. u8)) (λ _. tt) ∷
+        plain (λ _. K.the-row) ∷ SliceRefMutOf (1 ∷ []) tt (plain (λ _. u8)) (λ _. tt) ∷ [];
     result = plain (λ _. Res);
   };
   kept = (yes, (yes, (yes, (yes, (yes, tt)))));
@@ -107,8 +107,14 @@ lender f ty = record {
   body = body f;
 }
 
-module _ {M : Type 1} (𝓤 : URA M) (Res : RattleType) (e′ : (κs : Lfts 3) → Args (Call Res .signature) κs → Res .Denot → AtExit (Call Res) κs → SProp 𝓤)
-    (e : (κs : Lfts 2) → Args (Lender Res .signature) κs → Res .Denot → AtExit (Lender Res) κs → SProp 𝓤) where
+-- ---- what they promise, each of its own parameters
+abbrev pub CallPromise : {M : Type 1} → URA M → RattleType → Type 2
+CallPromise 𝓤 Res = (κs : Lfts 3) → Args (Call Res .signature) κs → Res .Denot → AtExit (Call Res) κs → SProp 𝓤
+
+abbrev pub LenderPromise : {M : Type 1} → URA M → RattleType → Type 2
+LenderPromise 𝓤 Res = (κs : Lfts 2) → Args (Lender Res .signature) κs → Res .Denot → AtExit (Lender Res) κs → SProp 𝓤
+
+module _ {M : Type 1} (𝓤 : URA M) (Res : RattleType) (e′ : CallPromise 𝓤 Res) (e : LenderPromise 𝓤 Res) where
   -- the clauses: the call asks nothing, and the function that the columns have places
   abbrev pub call-clauses : Clauses 𝓤 (Call Res)
   call-clauses κs a = record { ghost = Unit {0}; requires = λ _. emp 𝓤; ensures = λ _. e′ κs a }
@@ -132,20 +138,22 @@ stayed Res = (
 abbrev lifetimes : Lft → Lft → ℕ → Lfts 3
 lifetimes κ₀ κ₁ ν = (ν ∷ [], (κ₀, (κ₁, tt)))
 
-abbrev given : List Column → ℕ → RefT (List ℕ) → Cursor → RefT (List ℕ) → ℕ → GName → RefT (List Column) × (RefT (List ℕ) × (Cursor × (RefT (List ℕ) × Unit {0})))
+abbrev Given4 : Type 0
+Given4 = RefT (List Column) × (RefT (List ℕ) × (Cursor × (RefT (List ℕ) × Unit {0})))
+
+abbrev given : List Column → ℕ → RefT (List ℕ) → Cursor → RefT (List ℕ) → ℕ → GName → Given4
 given xs n z at out l δ = (front l δ n xs, (z, (at, (out, tt))))
 
 -- the clauses of the function follow from those of the call, for every room that it leaves
-abbrev pub Follows : {M : Type 1} (𝓤 : URA M) (Res : RattleType) (e′ : (κs : Lfts 3) → Args (Call Res .signature) κs → Res .Denot → AtExit (Call Res) κs → SProp 𝓤)
-    (e : (κs : Lfts 2) → Args (Lender Res .signature) κs → Res .Denot → AtExit (Lender Res) κs → SProp 𝓤) → Type 1
-Follows 𝓤 Res e′ e = (κ₀ κ₁ : Lft) (xs : List Column) (n : ℕ) (z : RefT (List ℕ)) (at : Cursor) (out : RefT (List ℕ)) (ν l : ℕ) (δ : GName) (r : Res .Denot) (bs : List ℕ)
+abbrev pub Follows : {M : Type 1} (𝓤 : URA M) (Res : RattleType) → CallPromise 𝓤 Res → LenderPromise 𝓤 Res → Type 1
+Follows 𝓤 Res e′ e = (κ₀ κ₁ : Lft) (xs : List Column) (n : ℕ) (z : RefT (List ℕ)) (at : Cursor) (out : RefT (List ℕ)) (ν l : ℕ) (δ : GName)
+    (r : Res .Denot) (bs : List ℕ)
     → ent 𝓤 (e′ (lifetimes κ₀ κ₁ ν) (given xs n z at out l δ) r (atExit (Call Res) (lifetimes κ₀ κ₁ ν) (given xs n z at out l δ) (tt, (tt, (tt, (bs, tt))))))
     (e (κ₀, (κ₁, tt)) (xs, (n, (z, (at, (out, tt))))) r (atExit (Lender Res) (κ₀, (κ₁, tt)) (xs, (n, (z, (at, (out, tt))))) (tt, (tt, (tt, (tt, (bs, tt)))))))
 
 module _ {M : Type 1} (𝓤 : URA M) (H : Heap 𝓤) (A : Atoms 𝓤) (W : Given 𝓤 H A) (Res : RattleType) (ty : Ty)
     (typed : (r : Res .Denot) (w : Val) → Is Res r (w ∷ []) → Holds (hasTy ty w) × WT w) (f : Name)
-    (e′ : (κs : Lfts 3) → Args (Call Res .signature) κs → Res .Denot → AtExit (Call Res) κs → SProp 𝓤)
-    (e : (κs : Lfts 2) → Args (Lender Res .signature) κs → Res .Denot → AtExit (Lender Res) κs → SProp 𝓤) (follows : Follows 𝓤 Res e′ e)
+    (e′ : CallPromise 𝓤 Res) (e : LenderPromise 𝓤 Res) (follows : Follows 𝓤 Res e′ e)
     (𝓣 : Tables 𝓤 H) (known : Triple 𝓤 (𝓣 .C f) (tripleOf 𝓤 H A (Call Res .signature) (closing 𝓤 H A (Call Res) (call-clauses 𝓤 Res e′ e)))) where
   -- the contract that the proof cites
   abbrev Called : Contract 𝓤
@@ -191,7 +199,7 @@ module _ {M : Type 1} (𝓤 : URA M) (H : Heap 𝓤) (A : Atoms 𝓤) (W : Given
     abbrev token : ℕ → Fml
     token ν = flft (ν ∷ []) fullShare
 
-    abbrev is-passed : ℕ → GName → RefT (List Column) × (RefT (List ℕ) × (Cursor × (RefT (List ℕ) × Unit {0})))
+    abbrev is-passed : ℕ → GName → Given4
     is-passed = given xs n z at out
 
     module _ (l ν : ℕ) (δ : GName) where
@@ -288,9 +296,21 @@ module _ {M : Type 1} (𝓤 : URA M) (H : Heap 𝓤) (A : Atoms 𝓤) (W : Given
   walks =
       walked 𝓤 H A (Lender Res) (stayed Res) clauses (WpFn 𝓤 H (𝓣 .C) (𝓣 .Λ) (lender f ty))
       (λ κs. (columns-vals, (uint-vals w64, (slice-vals, (LL.vals K.the-type K′.the-laws, (slice-vals, tt))))))
-      (λ κs. (columns-tells, (uint-tells w64, (shr-slice-tells (named 0) (κs .0) u8, (LL.tells K.the-type K′.the-laws, (mut-slice-tells (named 1) (κs .1 .0) u8, tt))))))
-      (λ κs qs bounds a g are. needs 𝓤 _ _ (λ few. walk (κs .0) (κs .1 .0) (qs .0) (qs .1 .0) (a .0) _ (a .1 .0) (a .1 .1 .0) (a .1 .1 .1 .0) _ (a .1 .1 .1 .1 .0)
-      (are .0) (are .1 .0 .1) (are .1 .1 .0 .0 .1) (are .1 .1 .1 .0) (are .1 .1 .1 .1 .0 .0 .1) few))
+      (λ κs. (
+        columns-tells,
+        (
+          uint-tells w64,
+          (
+            shr-slice-tells (named 0) (κs .0) u8,
+            (
+              LL.tells K.the-type K′.the-laws,
+              (mut-slice-tells (named 1) (κs .1 .0) u8, tt),
+            ),
+          ),
+        ),
+      ))
+      (λ κs qs bounds a g are. needs 𝓤 _ _ (λ few. walk (κs .0) (κs .1 .0) (qs .0) (qs .1 .0) (a .0) _ (a .1 .0) (a .1 .1 .0) (a .1 .1 .1 .0) _
+      (a .1 .1 .1 .1 .0) (are .0) (are .1 .0 .1) (are .1 .1 .0 .0 .1) (are .1 .1 .1 .0) (are .1 .1 .1 .1 .0 .0 .1) few))
 
   pub lends : Meets 𝓤 H A (Lender Res .signature) (WpFn 𝓤 H (𝓣 .C) (𝓣 .Λ) (lender f ty)) (closing 𝓤 H A (Lender Res) clauses)
   lends =

@@ -3,13 +3,16 @@
 ghost use mathlib.Core.Path.{_≡_};
 ghost use mathlib.Core.List.{List};
 ghost use Prim.Native.Nat.{ℕ};
-ghost use Rattle.format.specs.Answer.{mapRead, readAt};
-ghost use Rattle.format.specs.Row.{readRow};
+ghost use lib.ListN.{length};
+ghost use Rattle.format.specs.Answer.{mapRead, readAt, fittedRead, roomAfterRead};
+ghost use Rattle.format.specs.Row.{readRow, copiedOutRow};
 ghost use Rattle.judge_step.specs.Told.{needsOf, rowJudgedTold};
+ghost use Rattle.read_step.specs.Told.{firstPlace, rowReadTold};
 ghost use Rattle.held_read.specs.Held.{firstColumns, countedRead};
 use column_type::Column;
 use cursor::Cursor;
 use judge_step::RowJudged;
+use read_step::RowRead;
 
 pub mod inner;
 
@@ -21,4 +24,22 @@ pub fn judge_held_row(cols: [Column; 1024], count: usize, s: &[u8], cursor: Curs
         return RowJudged::Refused(inner::many(s.len(), cursor));
     }
     inner::judge_lent(cols, count, s, cursor)
+}
+
+// The row at the cursor: its first value's place, from which `RowPlace::value` takes the values in
+// turn, and where it ends. What PLP content joins to stands at the front of the room.
+pub fn read_held_row(
+    cols: [Column; 1024],
+    count: usize,
+    s: &[u8],
+    cursor: Cursor,
+    out: &mut [u8],
+) -> RowRead
+    ensures told { λ r. ⌜ ((b : List ℕ) → rowReadTold r ≡ mapRead (λ vs. firstPlace (cursor .at)) (fittedRead (copiedOutRow (firstColumns b cols count)) (readAt (countedRead count (readRow (firstColumns b cols count))) (now (s .entry)) (cursor .at)) (length (now (out .entry))))) ⌝ }
+    ensures room { λ _. ⌜ ((b : List ℕ) → now (out .exit) ≡ roomAfterRead (copiedOutRow (firstColumns b cols count)) (fittedRead (copiedOutRow (firstColumns b cols count)) (readAt (countedRead count (readRow (firstColumns b cols count))) (now (s .entry)) (cursor .at)) (length (now (out .entry)))) (now (out .entry))) ⌝ }
+{
+    if held::inner::too_many(count) {
+        return RowRead::Refused(inner::many(s.len(), cursor));
+    }
+    inner::read_lent(cols, count, s, cursor, out)
 }

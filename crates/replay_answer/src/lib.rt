@@ -14,9 +14,12 @@ fn in_room(op: u8, frame: &[u8], room: &mut [u8]) {
         0x30 => replay_read::value_read(frame, room),
         0x31 => replay_value::value_write(frame, room),
         0x32 => replay_value::untyped_write(frame, room),
+        0x38 => replay_row_read::row_read(frame, room),
         0x39 => replay_row::row_write(frame, room),
+        0x3A => replay_row::normal(frame, room),
         0x48 => texts::text_in(frame, room),
         0x49 => texts::text_out(frame, room),
+        0x58 => replay_capture::capture(frame, room),
         0x7E => own::self_test(frame, room),
         _ => say::bad(),
     }
@@ -39,10 +42,10 @@ fn without_room(op: u8, frame: &[u8]) -> bool {
 
 // Where a frame says how large its room is: behind the place, in the ops that read at one.
 fn room_size_at(op: u8) -> usize {
-    if op == 0x30 {
-        return 9;
+    match op {
+        0x30 | 0x38 | 0x3A => 9,
+        _ => 1,
     }
-    1
 }
 
 // One frame's answer, by its op's number.

@@ -25,7 +25,7 @@ pub fn behind_values(frame: &[u8], at: usize) -> usize {
 }
 
 // As many records as there are places for.
-fn placed(n: usize) -> usize
+pub fn placed(n: usize) -> usize
     ensures { λ r. ⌜ r ≤ 1024 ⌝ }
 {
     if 1024 < n {

@@ -15,11 +15,11 @@ use Rattle.judge_step.specs.declared.RowJudged.{RowJudged}
 use Rattle.judge_step.specs.declared.RowJudged.the-variants as R
 use Rattle.judge_step.specs.Told.{needsOf, rowJudgedTold}
 
-abbrev judgedBack : Read Needs → RowJudged
+abbrev pub judgedBack : Read Needs → RowJudged
 judgedBack (took n at) = R.Row (record { next = record { at = at }; joined = n .joined; normal = n .normal })
 judgedBack (stops e) = R.Refused (refusalBack e)
 
-judged-undoes : Undoes rowJudgedTold judgedBack
+pub judged-undoes : Undoes rowJudgedTold judgedBack
 judged-undoes (R.Row n) = refl
 judged-undoes (R.Refused e) = ap R.Refused (refusal-undoes e)
 

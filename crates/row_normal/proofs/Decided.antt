@@ -15,11 +15,11 @@ use Rattle.normal_step.specs.declared.Normal.{Normal}
 use Rattle.normal_step.specs.declared.Normal.the-variants as N
 use Rattle.normal_step.specs.Told.{normalTold}
 
-abbrev normalBack : Read ℕ → Normal
+abbrev pub normalBack : Read ℕ → Normal
 normalBack (took n next) = N.Bytes n (record { at = next })
 normalBack (stops e) = N.Refused (refusalBack e)
 
-normal-undoes : Undoes normalTold normalBack
+pub normal-undoes : Undoes normalTold normalBack
 normal-undoes (N.Bytes n c) = refl
 normal-undoes (N.Refused e) = ap N.Refused (refusal-undoes e)
 

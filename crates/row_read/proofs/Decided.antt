@@ -16,11 +16,11 @@ use Rattle.read_step.specs.declared.RowRead.{RowRead}
 use Rattle.read_step.specs.declared.RowRead.the-variants as R
 use Rattle.read_step.specs.Told.{Place, firstPlace, rowReadTold}
 
-abbrev readBack : Read Place → RowRead
+abbrev pub readBack : Read Place → RowRead
 readBack (took p next) = R.Row (record { cursor = record { at = p .at }; copied = p .copied }) (record { at = next })
 readBack (stops e) = R.Refused (refusalBack e)
 
-read-undoes : Undoes rowReadTold readBack
+pub read-undoes : Undoes rowReadTold readBack
 read-undoes (R.Row p next) = refl
 read-undoes (R.Refused e) = ap R.Refused (refusal-undoes e)
 

@@ -23,10 +23,10 @@ returns c =
     let counted = c .before .before in
     let a = counted .before .before .before .args in
     let h = sym (counted .too-many .ensures) ∙ c .before .if1 .taken in (
-      λ b. many-leaves length (λ (bytes : List ℕ). bytes) (a .count) (normal (firstColumns b (a .cols) (a .count))) (a .s .now) (a .cursor .at) _ (a .out .now) h
-          (c .many .ensures) .0,
-      λ b. many-leaves length (λ (bytes : List ℕ). bytes) (a .count) (normal (firstColumns b (a .cols) (a .count))) (a .s .now) (a .cursor .at) _ (a .out .now) h
-          (c .many .ensures) .1,
+      λ b. many-leaves length (λ (bytes : List ℕ). bytes) (a .count) (normal (firstColumns b (a .cols) (a .count))) (a .s .now) (a .cursor .at) _
+          (a .out .now) h (c .many .ensures) .0,
+      λ b. many-leaves length (λ (bytes : List ℕ). bytes) (a .count) (normal (firstColumns b (a .cols) (a .count))) (a .s .now) (a .cursor .at) _
+          (a .out .now) h (c .many .ensures) .1,
     )
 
 normal-lent-requires : tie.Need-normal-lent-requires

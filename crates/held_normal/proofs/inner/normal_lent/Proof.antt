@@ -1,5 +1,5 @@
--- `held_normal::inner::normal_lent` meets its contract: it is the function of `held_read`'s `Lender`, for the call `normal_row`, whose clauses of a lent list are
--- this function's of the first columns. Assumes nothing.
+-- `held_normal::inner::normal_lent` meets its contract: it is the function of `held_read`'s `Lender`, for the call `normal_row`, whose clauses of a lent
+-- list are this function's of the first columns. Assumes nothing.
 use mathlib.Core.List.{[], _∷_}
 use base.Logic.{id⊢}
 use contract.Running.{givenOf, tables, tablesOf}

@@ -1,5 +1,5 @@
--- `held_read::inner::judge_lent` meets its contract: a walk of its MIR, by hand. The first columns of a local array are lent for a lifetime that is made for the
--- call (`held`'s `Arrays`); the input and the cursor are handed on as they came, and the call's clause is this function's.
+-- `held_read::inner::judge_lent` meets its contract: a walk of its MIR, by hand. The first columns of a local array are lent for a lifetime that is made for
+-- the call (`held`'s `Arrays`); the input and the cursor are handed on as they came, and the call's clause is this function's.
 -- Assumes nothing.
 use mathlib.Core.Path.{_≡_, refl}
 use Prim.Native.Nat.{ℕ, _≤_, _<_, _^_}
