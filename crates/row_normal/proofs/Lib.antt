@@ -1,3 +1,2 @@
 pub mod Decided
 pub mod More
-pub mod OwnForm
