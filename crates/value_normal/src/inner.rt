@@ -67,7 +67,7 @@ fn content_in(out: &mut [u8], s: &[u8], run: Run, text: bool, count: usize, end:
     }
 }
 
-// A PLP value: null as it is, content behind the run.
+// A PLP value: null as it is, content behind the run. It was judged before and is not refused.
 fn plp_in(out: &mut [u8], s: &[u8], run: Run, text: bool) -> Run
     requires { ⌜ RunFits (now s) (length (now out)) run (mapRead plpBytes (readPlp text (drop (run .at) (now s)))) ⌝ }
     ensures { λ r. ⌜ RunGrows (now (s .entry)) (now (out .entry)) run (mapRead plpBytes (readPlp text (drop (run .at) (now (s .entry))))) (now (out .exit)) r ⌝ }
