@@ -42,11 +42,12 @@ use Rattle.format.proofs.MoreReaders.{stream-column}
 use Rattle.format.proofs.Descriptor.{oddMarker}
 use Rattle.format.proofs.Normal.{NormalForm, normal-form, normal-took}
 use Rattle.column_type.specs.declared.Column.{Column}
-use Rattle.column_type.specs.declared.ColumnRead.the-variants as CR
-use Rattle.column_type.specs.Told.{columnTold, columnReadTold}
+use Rattle.column_type.specs.Told.{columnTold}
 use Rattle.column_type.proofs.RoundTrip.{read-written}
 use Rattle.columns.specs.Told.{columnsTold}
 use Rattle.cursor.specs.declared.Cursor.{Cursor}
+use Rattle.cursor.specs.declared.ColumnRead.the-variants as CR
+use Rattle.cursor.specs.Told.{columnReadTold}
 use Rattle.wire.specs.declared.Wrote.{Wrote}
 use Rattle.wire.specs.declared.Wrote.the-variants as W
 use Rattle.wire.proofs.Decided.{Writes}
@@ -250,7 +251,7 @@ module _ (s : List ℕ) (at : ℕ) (p : Bytes s) (c : Column) (next : Cursor) (r
   unfolding fitted
   given out l =
       let f : ltb (length out) (length bytes) ≡ false = le-ltb (length out) (length bytes) (omega (arith, l, counted)) in
-      ap (λ (g : Answer (List ℕ)). fitted g (length out)) (read-written s at c next p read plain) ∙ rw f
+      ap (λ (g : Answer (List ℕ)). fitted g (length out)) (read-written s at c (record { at = next .at }) p read plain) ∙ rw f
 
   pub again : (out : List ℕ) (r : Wrote) (after : List ℕ) → count ≤ length out → Writes (writeColumn (columnTold s c)) out r after →
       (r ≡ W.Bytes count) × (take count after ≡ bytes)
