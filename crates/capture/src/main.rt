@@ -2,10 +2,6 @@
 use libc::STDERR_FILENO;
 use libc::STDIN_FILENO;
 
-// How many bytes a capture may have here. Rooms are larger: a letter of two bytes has up to three in
-// UTF-8.
-const MOST: usize = 524288;
-
 fn say_help() {
     words::text(
         b"show [FILE..]: shows captures, each a column count in two bytes, low first, the\n",
@@ -19,33 +15,31 @@ fn say_fault(name: &[u8], text: &[u8]) {
     io::write_all(STDERR_FILENO, text);
 }
 
-// The capture that a descriptor gives.
-fn show_input(name: &[u8], fd: i32) {
-    let mut s = [0u8; 524289];
-    let mut joined = [0u8; 524288];
-    let mut room = [0u8; 1048576];
-    let n = io::read_full(fd, &mut s);
+// The capture that a descriptor gives. What fills the buffer to its end is too large.
+fn show_input(name: &[u8], fd: i32, s: &mut [u8], joined: &mut [u8], room: &mut [u8]) {
+    let n = io::read_full(fd, s);
     if n == 0 {
         say_fault(name, b": there is nothing in it\n");
         return;
     }
-    if MOST < n {
-        say_fault(name, b": it is too large, above 524288 bytes\n");
+    if s.len() <= n {
+        say_fault(name, b": it is too large, above 262143 bytes\n");
         return;
     }
-    show_capture::show(&s[..n], &mut joined, &mut room);
+    show_capture::show(&s[..n], joined, room);
 }
 
-fn show_file(path: &[u8]) {
+fn show_file(path: &[u8], s: &mut [u8], joined: &mut [u8], room: &mut [u8]) {
     let fd = os::open_read(path);
     if fd < 0 {
         os::fail(path);
         return;
     }
-    show_input(path, fd);
+    show_input(path, fd, s, joined, room);
     libc::close(fd);
 }
 
+// Is the word -h or --help?
 fn is_help(word: &[u8]) -> bool {
     if word.len() < 2 {
         return false;
@@ -59,8 +53,17 @@ fn is_help(word: &[u8]) -> bool {
     word[1] == b'-'
 }
 
-// The file that an argument names; its name stands above it where there are several.
-fn show_argument(i: usize, several: bool) {
+// The name of a file stands above it where there are several.
+fn say_name(path: &[u8], several: bool) {
+    if several {
+        words::text(b"== ");
+        words::text(path);
+        words::text(b"\n");
+    }
+}
+
+// The file that an argument names.
+fn show_argument(i: usize, several: bool, s: &mut [u8], joined: &mut [u8], room: &mut [u8]) {
     let mut path = io::buffer();
     let n = os::arg(i, &mut path);
     if os::errno() != 0 {
@@ -71,23 +74,29 @@ fn show_argument(i: usize, several: bool) {
         say_help();
         return;
     }
-    if several {
-        words::text(b"== ");
-        words::text(&path[..n]);
-        words::text(b"\n");
-    }
-    show_file(&path[..n]);
+    say_name(&path[..n], several);
+    show_file(&path[..n], s, joined, room);
 }
 
-fn main() {
+fn run(s: &mut [u8], joined: &mut [u8], room: &mut [u8]) {
     let count = os::arg_count();
     if count < 2 {
-        show_input(b"standard input", STDIN_FILENO);
+        show_input(b"standard input", STDIN_FILENO, s, joined, room);
         return;
     }
+    let several = 2 < count;
     let mut i: usize = 1;
     while i < count {
-        show_argument(i, 2 < count);
+        show_argument(i, several, s, joined, room);
         i += 1;
     }
+}
+
+// Room for long content and for the normal form, neither longer than the capture; a letter of two
+// bytes has up to three in UTF-8.
+fn main() {
+    let mut s = [0u8; 262144];
+    let mut joined = [0u8; 262144];
+    let mut room = [0u8; 393216];
+    run(&mut s, &mut joined, &mut room);
 }
