@@ -52,8 +52,8 @@ loop-less c = search needs
 loop-again : tie.Need-loop-again Inv-loop μ-loop
 loop-again c = search needs
 
-row-requires : tie.Need-row-requires Inv-loop μ-loop
-row-requires c κs = search needs
+say-row-requires : tie.Need-say-row-requires Inv-loop μ-loop
+say-row-requires c κs = search needs
 
 same-length-2 : tie.Need-same-length-2 Inv-loop μ-loop
 same-length-2 c = search needs
@@ -81,6 +81,6 @@ listed-spec =
     add-i
     loop-less
     loop-again
-    row-requires
+    say-row-requires
     same-length-2
     returns-2)
