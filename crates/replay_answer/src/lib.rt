@@ -3,7 +3,6 @@ use replay_number::numbers;
 use replay_number::own;
 use replay_number::texts;
 use replay_say::fields;
-use replay_say::say;
 
 // An op whose frame begins with the size of its room: it is lent that much.
 fn in_room(op: u8, frame: &[u8], room: &mut [u8]) {
@@ -14,14 +13,10 @@ fn in_room(op: u8, frame: &[u8], room: &mut [u8]) {
         0x30 => replay_read::value_read(frame, room),
         0x31 => replay_value::value_write(frame, room),
         0x32 => replay_value::untyped_write(frame, room),
-        0x38 => replay_row_read::row_read(frame, room),
-        0x39 => replay_row::row_write(frame, room),
-        0x3A => replay_row::normal(frame, room),
         0x48 => texts::text_in(frame, room),
         0x49 => texts::text_out(frame, room),
-        0x58 => replay_capture::capture(frame, room),
         0x7E => own::self_test(frame, room),
-        _ => say::bad(),
+        _ => replay_rows::in_room(op, frame, room),
     }
 }
 

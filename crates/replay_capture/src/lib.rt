@@ -1,41 +1,12 @@
 // capture: the columns' count, their descriptors, then a row.
 use capture_columns::ColumnsEnd;
-use column_type::Column;
 use cursor::Cursor;
-use read_step::RowRead;
-use replay_row_read::show_values;
+use replay_row_read::say_row;
 use replay_say::fields;
 use replay_say::say;
 use wire::NumberRead;
 use wire::Width;
 use wire::Wrote;
-
-// The fourteen numbers of each column.
-fn show_columns(cols: [Column; 1024], count: usize) {
-    let n = replay_list::placed(count);
-    let mut i: usize = 0;
-    while i < n {
-        let c = cols[i];
-        replay_type::show(c);
-        i += 1;
-    }
-}
-
-// The row behind the descriptors.
-fn row(cols: [Column; 1024], count: usize, s: &[u8], from: Cursor, room: &mut [u8]) {
-    match held_read::read_held_row(cols, count, s, from, room) {
-        RowRead::Row(first, next) => {
-            say::ok();
-            say::number(next.at as u64);
-            say::number(count as u64);
-            show_columns(cols, count);
-            let copied = show_values(cols, count, first, s, room);
-            say::front(room, copied);
-            say::end();
-        }
-        RowRead::Refused(e) => say::wrote(Wrote::Refused(e), room),
-    }
-}
 
 // That many descriptors, one after another, and the row behind them.
 fn listed(count: usize, s: &[u8], from: wire::Cursor, room: &mut [u8]) {
@@ -43,7 +14,7 @@ fn listed(count: usize, s: &[u8], from: wire::Cursor, room: &mut [u8]) {
     let list = columns.list;
     let end = columns.end;
     match end {
-        ColumnsEnd::End(at) => row(list, count, s, Cursor { at: at.at }, room),
+        ColumnsEnd::End(at) => say_row(list, count, s, Cursor { at: at.at }, true, room),
         ColumnsEnd::Refused(e, _, _) => say::wrote(Wrote::Refused(e), room),
     }
 }

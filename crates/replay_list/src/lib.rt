@@ -64,3 +64,14 @@ pub fn values(frame: &[u8], at: usize) -> [Value; 1024] {
     }
     values
 }
+
+// The fourteen numbers of each column.
+pub fn show_columns(cols: [Column; 1024], count: usize) {
+    let n = placed(count);
+    let mut i: usize = 0;
+    while i < n {
+        let c = cols[i];
+        replay_type::show(c);
+        i += 1;
+    }
+}

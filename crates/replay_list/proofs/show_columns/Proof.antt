@@ -1,8 +1,8 @@
--- `replay_capture::show_columns` is safe: it looks at as many columns as there are places at most. Assumes nothing.
+-- `replay_list::show_columns` is safe: it looks at as many columns as there are places at most. Assumes nothing.
 use Prim.Native.Nat.{_≤_, _-_}
 use borrow.Author.Needs.{needs}
-use Rattle.replay_capture.proofs.show_columns.Statement.{statement}
-use Rattle.replay_capture.proofs.show_columns.Tie as tie
+use Rattle.replay_list.proofs.show_columns.Statement.{statement}
+use Rattle.replay_list.proofs.show_columns.Tie as tie
 
 abbrev Inv-loop : tie.InvT-loop
 Inv-loop count cols n i₀ i = (i ≤ n) × (n ≤ 1024)
