@@ -9,12 +9,13 @@ use lib.Dec.{ltb}
 use lib.ListN.{length, drop}
 use borrow.Author.Tests.{lt-ltb, le-ltb, ltb-false}
 use Rattle.lists.specs.Pick.{pick}
-use Rattle.format.specs.Answer.{Refusal, Read, took, stops, room, rule, mapRead, readAt, fittedRead}
+use Rattle.format.specs.Answer.{Refusal, Read, took, stops, room, mapRead, readAt, fittedRead}
 use Rattle.format.specs.Descriptor as D
 use Rattle.format.specs.Value.{Value, readValue, encode}
-use Rattle.format.specs.Row.{maxColumns, consRead, readValues, readRow}
+use Rattle.format.specs.Row.{readValues, readRow}
 use Rattle.format.specs.Normal.{encodeRow, normal}
-use Rattle.format.proofs.Place.{past, no-took, took-at, at-took, at-then, at-then-stops, at-map-took, at-map-stops, next-inside}
+use Rattle.format.proofs.Place.{past, no-took, took-at, at-map-took, at-map-stops, next-inside}
+use Rattle.format.proofs.Found.{columns, first-then}
 use Rattle.format.proofs.MoreReaders.{stream-value}
 use Rattle.column_type.specs.declared.Column.{Column}
 use Rattle.columns.specs.Told.{columnsTold}
@@ -69,13 +70,6 @@ module _ (cs : List D.Column) (s : List ℕ) (at size : ℕ) where
     pub bytes : encodeRow cs values ≡ j
     pub fits : length j ≤ size
 
-  row-values : (vs : List Value) (n : ℕ) → readAt (readRow cs) s at ≡ took vs n → readAt (readValues cs) s at ≡ took vs n
-  unfolding readRow
-  row-values vs n h =
-      let p = took-at (readRow cs) s at vs n h in
-      let q = past (ltb maxColumns (length cs)) rule (readValues cs (drop at s)) vs (p .1) (p .2) in
-      at-took (readValues cs) s at vs (p .1) (p .0) (q .1) ∙ ap (took vs) (p .3)
-
   pub answered : (j : List ℕ) (n : ℕ) → asked ≡ took j n → Answered j n
   answered j n h = go (readAt (readRow cs) s at) refl
     where
@@ -86,7 +80,7 @@ module _ (cs : List D.Column) (s : List ℕ) (at size : ℕ) where
           let k : m ≡ n = cc (p .1) in
           record {
             values = vs;
-            read = row-values vs m e ∙ ap (took vs) k;
+            read = columns cs s at vs m [] e ∙ ap (took vs) k;
             bytes = b;
             fits = rw (← b) (ltb-false size (length (encodeRow cs vs)) (p .0));
           }
@@ -107,36 +101,18 @@ pub record First (d : D.Column) (ds : List D.Column) (s : List ℕ) (at : ℕ) (
   pub both : value ∷ others ≡ vs
   pub inside : at + took-bytes ≤ length s
 
-module _ (d : D.Column) (ds : List D.Column) (s : List ℕ) (at : ℕ) (vs : List Value) (n : ℕ) where
-  rest-took : (v : Value) (m : ℕ) → readAt (consRead (readValues ds) v) s m ≡ took vs n
-      → (os : List Value) × (readAt (readValues ds) s m ≡ took os n) × (v ∷ os ≡ vs)
-  rest-took v m h = go (readAt (readValues ds) s m) refl
-    where
-      go : (r : Read (List Value)) → readAt (readValues ds) s m ≡ r → (os : List Value) × (readAt (readValues ds) s m ≡ took os n) × (v ∷ os ≡ vs)
-      go (took os k) e =
-          let t : took (v ∷ os) k ≡ took vs n = sym (at-map-took (_∷_ v) (readValues ds) s m os k e) ∙ h in
-          let q : k ≡ n = cc in
-          let b : v ∷ os ≡ vs = cc in
-          (os, e ∙ ap (took os) q, b)
-      go (stops x) e = no-took x vs n (sym (at-map-stops (_∷_ v) (readValues ds) s m x e) ∙ h)
-
-  pub first-of : readAt (readValues (d ∷ ds)) s at ≡ took vs n → First d ds s at vs n
-  unfolding readValues
-  first-of h = go (readAt (readValue d) s at) refl
-    where
-      go : (r : Read Value) → readAt (readValue d) s at ≡ r → First d ds s at vs n
-      go (took v m) e =
-          let p = took-at (readValue d) s at v m e in
-          let i = next-inside (readValue d) s at (stream-value d .stays) v m e in
-          let t = sym (at-then (readValue d) (consRead (readValues ds)) s at (stream-value d .stays) v m e) ∙ h in
-          let o = rest-took v m t in
-          record {
-            value = v;
-            took-bytes = p .1;
-            others = o .0;
-            here = ap (mapRead (encode d)) (p .2);
-            behind = rw (p .3) (o .1);
-            both = o .2;
-            inside = rw (p .3) (i .1);
-          }
-      go (stops x) e = no-took x vs n (sym (at-then-stops (readValue d) (consRead (readValues ds)) s at x e) ∙ h)
+pub first-of : (d : D.Column) (ds : List D.Column) (s : List ℕ) (at : ℕ) (vs : List Value) (n : ℕ) → readAt (readValues (d ∷ ds)) s at ≡ took vs n
+    → First d ds s at vs n
+first-of d ds s at vs n h =
+    let f = first-then d ds s at vs n h in
+    let p = took-at (readValue d) s at (f .0) (f .1) (f .3) in
+    let i = next-inside (readValue d) s at (stream-value d .stays) (f .0) (f .1) (f .3) in
+    record {
+      value = f .0;
+      took-bytes = p .1;
+      others = f .2;
+      here = ap (mapRead (encode d)) (p .2);
+      behind = rw (p .3) (f .4);
+      both = f .5;
+      inside = rw (p .3) (i .1);
+    }

@@ -36,12 +36,12 @@ module _ (b : List ℕ) where
   unfolding keepsRule
   same-rule c = rw (same-schema (typeTold (c .ty)) (c .schema))
 
-  same-value : (c : Column) → readValue (columnTold b c) ≡ readValue (columnTold [] c)
+  pub same-value : (c : Column) → readValue (columnTold b c) ≡ readValue (columnTold [] c)
   unfolding readValue
   same-value c =
       ap {B = List ℕ → Read Value} (λ (k : Bool) (s : List ℕ). stopIf (not k) rule (readFamily (c .length) (familyOf (typeTold (c .ty))) s)) (same-rule c)
 
-  same-values : (ys : List Column) → readValues (columnsTold b ys) ≡ readValues (columnsTold [] ys)
+  pub same-values : (ys : List Column) → readValues (columnsTold b ys) ≡ readValues (columnsTold [] ys)
   unfolding readValues
   same-values [] = refl
   same-values (c ∷ ys) =
@@ -49,7 +49,7 @@ module _ (b : List ℕ) where
       ∙ ap {B = List ℕ → Read (List Value)} (λ (r : List ℕ → Read (List Value)) (s : List ℕ). thenRead (readValue (columnTold [] c)) (consRead r) s)
       (same-values ys)
 
-  same-row : (ys : List Column) → readRow (columnsTold b ys) ≡ readRow (columnsTold [] ys)
+  pub same-row : (ys : List Column) → readRow (columnsTold b ys) ≡ readRow (columnsTold [] ys)
   unfolding readRow
   same-row ys =
       let l : length (columnsTold b ys) ≡ length (columnsTold [] ys) = length-map ys (columnTold b) ∙ sym (length-map ys (columnTold [])) in
@@ -57,7 +57,7 @@ module _ (b : List ℕ) where
       ∙ ap {B = List ℕ → Read (List Value)} (λ (r : List ℕ → Read (List Value)) (s : List ℕ). stopIf (ltb maxColumns (length (columnsTold [] ys))) rule (r s))
       (same-values ys)
 
-  same-encode : (ys : List Column) (vs : List Value) → encodeRow (columnsTold b ys) vs ≡ encodeRow (columnsTold [] ys) vs
+  pub same-encode : (ys : List Column) (vs : List Value) → encodeRow (columnsTold b ys) vs ≡ encodeRow (columnsTold [] ys) vs
   unfolding encodeRow encode
   same-encode [] vs = refl
   same-encode (c ∷ ys) [] = refl

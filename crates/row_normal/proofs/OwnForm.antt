@@ -9,29 +9,23 @@ use mathlib.Core.Logic.{_↔_}
 use mathlib.Core.List.{List, _++_}
 use Prim.Native.Nat.{ℕ, _+_, _≤_}
 use native.Mathlib.Omega.{arith}
-use lib.Dec.{ltb}
 use lib.ListN.{length, take, drop}
 use lib.Seq.{take-at, drop-at}
-use Rattle.format.specs.Answer.{Read, took, stops, room, readAt, fittedRead, roomAfterRead}
+use Rattle.format.specs.Answer.{Read, took, room, readAt, roomAfterRead}
 use Rattle.format.specs.Descriptor as D
 use Rattle.format.specs.Value.{Value}
 use Rattle.format.specs.Row.{readRow}
 use Rattle.format.specs.Normal.{encodeRow, normal}
 use Rattle.format.proofs.Number.{Bytes}
 use Rattle.format.proofs.Plain.{bytes-drop}
-use Rattle.format.proofs.Place.{past, no-took, took-at, at-took, map-took}
+use Rattle.format.proofs.Place.{took-at, at-took, map-took}
+use Rattle.format.proofs.Found.{fits}
 use Rattle.format.proofs.Normal.{NormalForm, normal-form, normal-took}
 use Rattle.wire.specs.declared.Cursor.{Cursor}
 use Rattle.column_type.specs.declared.Column.{Column}
 use Rattle.columns.specs.Told.{columnsTold}
 use Rattle.normal_step.specs.declared.Normal.the-variants as N
 use Rattle.row_normal.proofs.Decided.{normalOf, NormalisesRow}
-
--- what was read with a room was read
-fits : (size : ℕ) (r : Read (List ℕ)) (j : List ℕ) (n : ℕ) → fittedRead (λ (bytes : List ℕ). bytes) r size ≡ took j n → r ≡ took j n
-unfolding fittedRead
-fits size (took b m) j n h = past (ltb size (length b)) room (took b m) j n h .1
-fits size (stops e) j n h = no-took e j n h
 
 -- the row that was read, and its normal form in the room
 pub record Normalised (names : List ℕ) (cols : List Column) (s : List ℕ) (at : ℕ) (out : List ℕ) (n next : ℕ) (after : List ℕ) : Type 0 where
@@ -80,7 +74,7 @@ module _ (names : List ℕ) (cols : List Column) (s : List ℕ) (at : ℕ) (out 
       let asked = normalOf names cols s at (length out) in
       let read = readAt (normal (columnsTold names cols)) s at in
       let q = map-took length asked n (c .at) (sym (p .answer names)) in
-      let t = took-at (normal (columnsTold names cols)) s at (q .0) (c .at) (fits (length out) read (q .0) (c .at) (q .1)) in
+      let t = took-at (normal (columnsTold names cols)) s at (q .0) (c .at) (fits (λ (bytes : List ℕ). bytes) (length out) read (q .0) (c .at) (q .1)) in
       let r = normal-took (columnsTold names cols) (drop at s) (q .0) (t .1) (t .2) in
       let a = p .room names ∙ ap (λ (x : Read (List ℕ)). roomAfterRead (λ (bytes : List ℕ). bytes) x out) (q .1) in
       of-row names cols s at out after (q .0) (r .0) n (t .1) (c .at) b (t .0) (r .1) (r .2) (q .2) (t .3) a

@@ -3,7 +3,7 @@
 use mathlib.Core.Path.{_≡_, refl, sym, ap, _∙_}
 use mathlib.Core.Bool.{Bool}
 use mathlib.Core.List.{List}
-use mathlib.Core.Option.{Option, none, some}
+use mathlib.Core.Option.{Option, none}
 use Prim.Native.Nat.{ℕ, _+_, _≤_}
 use lib.Dec.{eqb, ltb}
 use lib.ListN.{length, take, drop}
@@ -18,6 +18,7 @@ use Rattle.format.proofs.Number.{Bytes, low-forth}
 use Rattle.format.proofs.Place.{past, no-took, then-took}
 use Rattle.format.proofs.Plain.{bytes-take, bytes-drop}
 use Rattle.plp_join.specs.Told.{counted}
+use Rattle.plp_join.proofs.Joining.{counted-null, counted-stops}
 use Rattle.value_normal.specs.declared.Run.{Run}
 use Rattle.value_normal.specs.Runs.{RunFits, RunGrows}
 use Rattle.value_normal.proofs.Growing.{grows-same}
@@ -56,11 +57,6 @@ module _ (text : Bool) (s : List ℕ) (n : ℕ) (b : Bytes s) where
   unfolding readPlp plpBytes
   null-bytes h = of-head (readPlpHead s) refl h
 
-counted-null : (r : Read (Option (List ℕ))) (n : ℕ) → mapRead counted r ≡ took none n → r ≡ took none n
-counted-null (took none m) n h = let q : m ≡ n = cc in ap (took none) q
-counted-null (took (some c) m) n h = clash cc
-counted-null (stops e) n h = no-took e none n h
-
 -- a null that was judged lengthens the run
 module _ (text : Bool) (s out : List ℕ) (run : Run) (b : Bytes s) where
   abbrev rest : List ℕ
@@ -84,5 +80,4 @@ module _ (text : Bool) (s out : List ℕ) (run : Run) (b : Bytes s) where
 -- a value that fits was not refused
 pub not-refused : {P : Type 0} (s : List ℕ) (size : ℕ) (run : Run) (r : Read (Option (List ℕ))) (e : Refusal) → mapRead counted r ≡ stops e
     → RunFits s size run (mapRead plpBytes r) → P
-not-refused s size run (took o n) e h f = clash cc
-not-refused s size run (stops d) e h f = absurd f
+not-refused s size run r e h f = let q = counted-stops r e h in absurd (rw q at f)

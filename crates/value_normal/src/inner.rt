@@ -11,7 +11,7 @@ ghost use Rattle.lists.specs.Put.{putAt};
 ghost use Rattle.format.specs.Answer.{took, mapRead};
 ghost use Rattle.format.specs.Plp.{readPlp, plpBytes};
 ghost use Rattle.value_kind.specs.Told.{familyTold};
-ghost use Rattle.plp_join.specs.Told.{counted, IsContent, contentOf};
+ghost use Rattle.plp_join.specs.Told.{counted};
 ghost use Rattle.value_form.specs.Told.{normalIn};
 ghost use Rattle.value_normal.specs.Runs.{held, runOn, RunFits, RunGrows};
 use crate::Run;
@@ -19,9 +19,6 @@ use plp_join::Judged;
 use value_form::Form;
 use value_kind::family::Family;
 use value_size::content;
-
-// An unknown total in place of a PLP total.
-const PLP_UNKNOWN: u64 = 0xFFFFFFFFFFFFFFFE;
 
 // The run is copied. It hands back the place behind it.
 pub fn close_run(out: &mut [u8], s: &[u8], run: Run) -> usize
@@ -52,23 +49,6 @@ fn bit_in(out: &mut [u8], s: &[u8], run: Run, at: usize) -> Run
     }
 }
 
-// PLP content, judged before: unknown length, the chunks joined to one, and the last zero; empty
-// content is the zero alone. It fills the room that it is lent to its last byte.
-fn put_plp(rest: &[u8], text: bool, out: &mut [u8])
-    requires { ⌜ IsContent (readPlp text (now rest)) × (length (now out) ≡ length (plpBytes (some (contentOf text (now rest))))) ⌝ }
-    ensures { λ _. ⌜ now (out .exit) ≡ plpBytes (some (contentOf text (now (rest .entry)))) ⌝ }
-{
-    let end = out.len() - 4;
-    wire::inner::put_low(out, 0, PLP_UNKNOWN, 8);
-    if end == 8 {
-        wire::inner::put_low(out, 8, 0, 4);
-        return;
-    }
-    wire::inner::put_low(out, 8, (end - 12) as u64, 4);
-    plp_join::inner::copy_chunks(rest, text, &mut out[12..end]);
-    wire::inner::put_low(out, end, 0, 4);
-}
-
 // PLP content of so many bytes, `end` bytes long in the input, put behind the run.
 fn content_in(out: &mut [u8], s: &[u8], run: Run, text: bool, count: usize, end: usize) -> Run
     requires { ⌜ (mapRead counted (readPlp text (drop (run .at) (now s))) ≡ took (some count) end)
@@ -78,7 +58,7 @@ fn content_in(out: &mut [u8], s: &[u8], run: Run, text: bool, count: usize, end:
     let at = run.at;
     let o = close_run(out, s, run);
     let e = o + content::formed(true, count as u32);
-    put_plp(&s[at..], text, &mut out[o..e]);
+    plp_put::inner::put_plp(&s[at..], text, &mut out[o..e]);
     let next = at + end;
     Run {
         from: next,
@@ -87,7 +67,7 @@ fn content_in(out: &mut [u8], s: &[u8], run: Run, text: bool, count: usize, end:
     }
 }
 
-// A PLP value: null as it is, content behind the run.
+// A PLP value: null as it is, content behind the run. It was judged before and is not refused.
 fn plp_in(out: &mut [u8], s: &[u8], run: Run, text: bool) -> Run
     requires { ⌜ RunFits (now s) (length (now out)) run (mapRead plpBytes (readPlp text (drop (run .at) (now s)))) ⌝ }
     ensures { λ r. ⌜ RunGrows (now (s .entry)) (now (out .entry)) run (mapRead plpBytes (readPlp text (drop (run .at) (now (s .entry))))) (now (out .exit)) r ⌝ }

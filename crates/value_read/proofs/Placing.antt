@@ -19,8 +19,9 @@ use Rattle.format.specs.Descriptor.{keepsRule}
 use Rattle.format.specs.Value.{ContentKind, Family, familyOf, contentValue, readFamily, readValue, contentOf, isPlp}
 use Rattle.format.specs.Found as F
 use Rattle.format.specs.Found.{handedBack, partOrEmpty}
-use Rattle.format.proofs.Place.{at-behind, at-inside, at-stops}
+use Rattle.format.proofs.Place.{at-behind}
 use Rattle.value_kind.specs.Told.{contentKindTold}
+use Rattle.value_kind.proofs.ColumnLaws.{read-broken, read-kept}
 use Rattle.value_look.specs.declared.Seen.{Seen}
 use Rattle.value_look.specs.declared.Seen.the-variants as L
 use Rattle.value_look.specs.Told.{seenTold, Lies}
@@ -44,17 +45,15 @@ module _ (c : D.Column) (s : List ℕ) (at : ℕ) (out : List ℕ) where
 
   module _ (h : at ≤ length s) where
     pub rule-broken : keepsRule c ≡ false → Leaves (stops rule) out
-    unfolding readValue
-    rule-broken k = refused rule (at-stops (readValue c) s at rule h (rw k))
+    rule-broken k = refused rule (read-broken c s at h k)
 
     -- what was read of the rest, under the column's family and declared length
     pub place-inside : keepsRule c ≡ true → (declared : ℕ) (f : Option Family) (rest : List ℕ) (told : Read F.Found) (after : List ℕ)
         → c .length ≡ declared → f ≡ familyOf (c .type) → rest ≡ drop at s
         → told ≡ mapRead (F.foundOf c at 0) (behind c (readFamily declared f rest) at (length out - 0))
         → after ≡ roomBehind c (readFamily declared f rest) at 0 out → Leaves told after
-    unfolding readValue
     place-inside k declared f rest told after l g r a b =
-        let e : further at (readFamily declared f rest) ≡ readAt (readValue c) s at = sym (at-inside (readValue c) s at h ∙ rw (k, l, ← g, ← r)) in
+        let e : further at (readFamily declared f rest) ≡ readAt (readValue c) s at = sym (read-kept c s at h k declared f rest l g r) in
         record {
           answered = rw (e, sub-zero (length out)) at a;
           stays = rw (e, sub-zero (length out)) at b;
@@ -103,15 +102,13 @@ module _ (c : D.Column) (s : List ℕ) (at : ℕ) where
   short-behind h = none-short (ap contentRead (at-behind (readValue c) s at h))
 
   pub short-broken : at ≤ length s → keepsRule c ≡ false → [] ≡ shortContent c s at
-  unfolding readValue
-  short-broken h k = none-short (ap contentRead (at-stops (readValue c) s at rule h (rw k)))
+  short-broken h k = none-short (ap contentRead (read-broken c s at h k))
 
   -- what was seen of the rest, under the column's family and declared length
   module _ (h : at ≤ length s) (k : keepsRule c ≡ true) (declared : ℕ) (f : Option Family) (rest : List ℕ) (l : c .length ≡ declared)
       (g : f ≡ familyOf (c .type)) (r : rest ≡ drop at s) where
     read-seen : (x : Seen) → seenTold rest x ≡ readFamily declared f rest → readAt (readValue c) s at ≡ further at (seenTold rest x)
-    unfolding readValue
-    read-seen x e = at-inside (readValue c) s at h ∙ rw (k, l, ← g, ← r, e)
+    read-seen x e = read-kept c s at h k declared f rest l g r ∙ ap (further at) (sym e)
 
     pub short-seen : (x : Seen) → seenTold rest x ≡ readFamily declared f rest → Lies declared rest x
         → handedBack s (at + partSeen x .start) (partSeen x .count) ≡ shortContent c s at

@@ -1,4 +1,4 @@
--- `value_normal::inner::put_plp` meets its contract: the stores in their order are the form's bytes. Assumes nothing.
+-- `plp_put::inner::put_plp` meets its contract: the stores in their order are the form's bytes. Assumes nothing.
 use borrow.Rule.Slice.PartMut.{same-len-mid}
 use native.Mathlib.Omega.{arith}
 use mathlib.Core.Path.{_≡_}
@@ -6,10 +6,10 @@ use mathlib.Core.List.{List}
 use Prim.Native.Nat.{ℕ, _-_}
 use lib.ListN.{length}
 use Rattle.plp_join.specs.Told.{contentOf}
-use Rattle.value_normal.proofs.Content.{form-room, chunk-room, chunk-part, chunk-put, none-put}
+use Rattle.plp_put.proofs.Putting.{form-room, chunk-room, chunk-part, chunk-put, none-put}
 use borrow.Author.Needs.{needs}
-use Rattle.value_normal.proofs.inner.put_plp.Statement.{statement}
-use Rattle.value_normal.proofs.inner.put_plp.Tie as tie
+use Rattle.plp_put.proofs.inner.put_plp.Statement.{statement}
+use Rattle.plp_put.proofs.inner.put_plp.Tie as tie
 
 -- where the eight bytes were put
 abbrev start : tie.After-put-low → tie.Start
