@@ -19,7 +19,7 @@ use mir.Val.{Val, WT, hasTy, vint}
 use base.Logic.{SProp, ent, emp, id⊢}
 use base.Fml.{Lft, GName, Share, Fml, ftrue, froom, flft}
 use prog.Wp.{Heap, WpFn, Tables}
-use ghost.Atoms.{Atoms, sem}
+use ghost.Atoms.{Atoms}
 use contract.Monad.{fact}
 use contract.Lifetimes.{Lfts}
 use types.Kit.{Given, ‵, raw, _⊛_, ⋆, some, later, _$_, _∵_, !, qed, by, move, keep, drop, use1, use2, split, join, group, pick, fsplit, fjoin}
@@ -43,7 +43,7 @@ use denote.Triple.Statement.{Contract, Triple}
 use denote.Triple.Call.{calls-at}
 use denote.Triple.Entry.{Args, Vals, onEntry}
 use denote.Triple.Spec.{Meets, tripleOf}
-use denote.Triple.Walked.{says, needs, Stays, stay-dropped, gave-slice, walkOf, goes-dropped, goes-gave-slice, Walks, ends-at, walked, walk-meets}
+use denote.Triple.Walked.{needs, Stays, stay-dropped, gave-slice, walkOf, goes-dropped, goes-gave-slice, Walks, ends-at, walked, walk-meets}
 use denote.Triple.Clauses.{Ended, AtExit, Clauses, Lasts, lasts, atExit, closing}
 use denote.Exit.{yes}
 use Rattle.cursor.specs.declared.Cursor.{Cursor}
@@ -138,17 +138,17 @@ stayed Res = (
 abbrev lifetimes : Lft → Lft → ℕ → Lfts 3
 lifetimes κ₀ κ₁ ν = (ν ∷ [], (κ₀, (κ₁, tt)))
 
-abbrev Given4 : Type 0
-Given4 = RefT (List Column) × (RefT (List ℕ) × (Cursor × (RefT (List ℕ) × Unit {0})))
+abbrev Handed : Type 0
+Handed = RefT (List Column) × (RefT (List ℕ) × (Cursor × (RefT (List ℕ) × Unit {0})))
 
-abbrev given : List Column → ℕ → RefT (List ℕ) → Cursor → RefT (List ℕ) → ℕ → GName → Given4
-given xs n z at out l δ = (front l δ n xs, (z, (at, (out, tt))))
+abbrev handed : List Column → ℕ → RefT (List ℕ) → Cursor → RefT (List ℕ) → ℕ → GName → Handed
+handed xs n z at out l δ = (front l δ n xs, (z, (at, (out, tt))))
 
 -- the clauses of the function follow from those of the call, for every room that it leaves
 abbrev pub Follows : {M : Type 1} (𝓤 : URA M) (Res : RattleType) → CallPromise 𝓤 Res → LenderPromise 𝓤 Res → Type 1
 Follows 𝓤 Res e′ e = (κ₀ κ₁ : Lft) (xs : List Column) (n : ℕ) (z : RefT (List ℕ)) (at : Cursor) (out : RefT (List ℕ)) (ν l : ℕ) (δ : GName)
     (r : Res .Denot) (bs : List ℕ)
-    → ent 𝓤 (e′ (lifetimes κ₀ κ₁ ν) (given xs n z at out l δ) r (atExit (Call Res) (lifetimes κ₀ κ₁ ν) (given xs n z at out l δ) (tt, (tt, (tt, (bs, tt))))))
+    → ent 𝓤 (e′ (lifetimes κ₀ κ₁ ν) (handed xs n z at out l δ) r (atExit (Call Res) (lifetimes κ₀ κ₁ ν) (handed xs n z at out l δ) (tt, (tt, (tt, (bs, tt))))))
     (e (κ₀, (κ₁, tt)) (xs, (n, (z, (at, (out, tt))))) r (atExit (Lender Res) (κ₀, (κ₁, tt)) (xs, (n, (z, (at, (out, tt))))) (tt, (tt, (tt, (tt, (bs, tt)))))))
 
 module _ {M : Type 1} (𝓤 : URA M) (H : Heap 𝓤) (A : Atoms 𝓤) (W : Given 𝓤 H A) (Res : RattleType) (ty : Ty)
@@ -199,8 +199,8 @@ module _ {M : Type 1} (𝓤 : URA M) (H : Heap 𝓤) (A : Atoms 𝓤) (W : Given
     abbrev token : ℕ → Fml
     token ν = flft (ν ∷ []) fullShare
 
-    abbrev is-passed : ℕ → GName → Given4
-    is-passed = given xs n z at out
+    abbrev is-passed : ℕ → GName → Handed
+    is-passed = handed xs n z at out
 
     module _ (l ν : ℕ) (δ : GName) where
       abbrev to-call : Called .Ghost

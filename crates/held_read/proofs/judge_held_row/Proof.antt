@@ -1,13 +1,8 @@
 -- `held_read::judge_held_row` meets its contract: the count, then the call that lends. Assumes nothing.
-use mathlib.Core.Path.{sym, _∙_, ap}
-use mathlib.Core.List.{List}
-use Prim.Native.Nat.{ℕ}
+use mathlib.Core.Path.{sym, _∙_}
 use native.Mathlib.Omega.{arith}
 use borrow.Author.Needs.{needs}
-use Rattle.format.specs.Answer.{Read, mapRead, stops}
 use Rattle.format.specs.Row.{readRow}
-use Rattle.format.specs.Value.{Value}
-use Rattle.judge_step.specs.Told.{needsOf}
 use Rattle.held.proofs.Counted.{few}
 use Rattle.held_read.specs.Held.{firstColumns}
 use Rattle.held_read.proofs.Counted.{few-read, many-read}

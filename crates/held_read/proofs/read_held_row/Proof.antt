@@ -1,9 +1,6 @@
 -- `held_read::read_held_row` meets its contract: the count, then the call that lends. Assumes nothing.
 use mathlib.Core.Path.{sym, _∙_}
-use mathlib.Core.List.{List}
-use Prim.Native.Nat.{ℕ}
 use native.Mathlib.Omega.{arith}
-use lib.ListN.{length}
 use borrow.Author.Needs.{needs}
 use Rattle.format.specs.Row.{readRow, copiedOutRow}
 use Rattle.read_step.specs.Told.{firstPlace}
