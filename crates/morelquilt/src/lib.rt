@@ -80,6 +80,23 @@ pub use plp_walk::walk_on;
 pub use plp_walk::walk_place;
 pub use plp_walk::walk_standing;
 
-// A row, written under a lent list of columns.
+// A row under a lent list of columns: judged, read, normalised, sized, written. `RowPlace::value`
+// takes the values of a row that was read, one after another.
+pub use judge_step::RowJudged;
+pub use judge_step::RowNeeds;
+pub use normal_step::Normal;
+pub use read_step::RowRead;
+pub use row_judge::judge_row;
+pub use row_normal::normal_row;
+pub use row_place::RowPlace;
+pub use row_place::RowValue;
+pub use row_read::read_row;
 pub use row_size::row_size;
 pub use row_write::write_row;
+
+// The same for a program that holds its columns and values in arrays of 1,024 places with a count.
+pub use held::held_row_size;
+pub use held::write_held_row;
+pub use held_normal::normal_held_row;
+pub use held_read::judge_held_row;
+pub use held_read::read_held_row;
