@@ -5,6 +5,7 @@
 - The pages name only what is there (names.py).
 - The lists are whole: public calls, must-fail edits, ops of the cases (complete.py).
 - The replay program's stdin and stdout are what the cases make (cases/frames.py).
+- README.md shows what there is (shown.py).
 
 .ci/sabotage.py tries that each of them can fail.
 """
@@ -14,6 +15,7 @@ import sys
 
 import complete
 import names
+import shown
 
 ROOT = pathlib.Path(__file__).resolve().parent.parent
 
@@ -33,7 +35,7 @@ def frame_faults():
 
 def main():
     faults = [fault for check in (crate_faults, frame_faults) for fault in check()]
-    for check in (names.faults, complete.faults):
+    for check in (names.faults, complete.faults, shown.faults):
         try:
             faults += check(ROOT)
         except ValueError as fault:

@@ -65,6 +65,11 @@ NAMES_AND_LISTS = [
     Sabotage('crates/header/must-fail/id_twice.edit', '', None, 'there is no must-fail edit header!id_twice'),
     Sabotage('crates/header/must-fail/seven_written.edit', 'old: Wrote::Bytes(8)', 'old: Wrote::Bytes(88)',
              'crates/header/must-fail/seven_written.edit: its old line stands 0 times'),
+    # what README.md shows
+    Sabotage('README.md', '     1  int                   4711\n', '     1  int                   4712\n', './show samples/corridor.tds does not print what is shown'),
+    Sabotage('crates/capture/stdout', 'begins at byte 12\n', 'begins at byte 13\n', './show samples/wrong-total.tds does not print what is shown'),
+    Sabotage('crates/example_limits/src/main.rt', 'fn main() {', 'fn main() {\n    words::text(b"");', 'crates/example_limits/src/main.rt is not what is shown'),
+    Sabotage('crates/capture/data/cut.tds', '', '\0', 'cut.tds'),
     Sabotage('crates.txt', 'column_rule: column_has column_type wire format lists\n', '', 'crates/column_rule is not listed in crates.txt'),
     # ops, and the cases that were handed to the project
     Sabotage('cases/ops.txt', 'type_read\n', '', 'the op type_read is neither in cases/ops.txt nor in cases/to-come.txt'),

@@ -75,9 +75,6 @@ fn show_normal(cols: [Column; 1024], count: usize, s: &[u8], cursor: Cursor, roo
     let made = held_normal::normal_held_row(cols, count, s, cursor, room);
     match made {
         Normal::Bytes(n, _) => {
-            if room.len() < n {
-                return;
-            }
             lines::say_normal(&room[..n]);
         }
         Normal::Refused(e) => {

@@ -106,9 +106,6 @@ pub fn say_string(units: &[u8], room: &mut [u8]) {
     let made = text::to_utf8(units, room);
     match made {
         Wrote::Bytes(n) => {
-            if room.len() < n {
-                return;
-            }
             say_text(&room[..n], units.len());
         }
         Wrote::Refused(e) => say_units(e, units),
