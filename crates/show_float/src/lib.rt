@@ -1,6 +1,9 @@
 // A float as a short decimal: a whole number over a power of ten, both exact as floats, whose
-// quotient, rounded once, is that float. Who reads the decimal back gets the same bits.
-ghost use Rattle.show_float.specs.Short.{Reads64, Reads32};
+// quotient, rounded once, equals that float. Equal is as IEEE has it, and 0 equals -0: who reads the
+// decimal back gets the same bits where the float has no sign. The caller, `show_number`, takes the
+// sign away first.
+ghost use Rattle.show_float.specs.Short.{TenIn, Reads64, Reads32};
+ghost use lib.Ieee.{binary32, binary64};
 
 // A number over a power of ten; or none that is short.
 pub enum Decimal {
@@ -59,6 +62,7 @@ fn whole(x: f64) -> u64 {
 
 // x over this power of ten.
 fn over64(x: f64, power: u64) -> Decimal
+    requires { ⌜ TenIn binary64 power ⌝ }
     ensures { λ r. ⌜ Reads64 x r ⌝ }
 {
     let ten = std::num::nearest_u64_to_f64(power);
@@ -74,6 +78,7 @@ fn over64(x: f64, power: u64) -> Decimal
 }
 
 fn over32(x: f32, power: u32) -> Decimal
+    requires { ⌜ TenIn binary32 power ⌝ }
     ensures { λ r. ⌜ Reads32 x r ⌝ }
 {
     let wide = std::num::f32_to_f64_with_nan(x);

@@ -31,7 +31,8 @@ returns-2 c =
     let power = c .before in
     let number = power .before in
     let within = number .before in
-    (within .if1 .left, compared binary32 _ _ _ _ _ (number .nearest-u32-to-f32 .ensures) (power .nearest-u32-to-f322 .ensures) (c .if2 .taken))
+    let start = within .before .before .before .before in
+    (within .if1 .left, start .pre, compared binary32 _ _ _ _ _ (number .nearest-u32-to-f32 .ensures) (power .nearest-u32-to-f322 .ensures) (c .if2 .taken))
 
 returns-3 : tie.Need-returns-3
 returns-3 c = search needs

@@ -22,7 +22,8 @@ returns-2 c =
     let divided = c .before in
     let within = divided .before in
     let ten = within .before .before in
-    (within .if1 .left, compared binary64 _ _ _ _ _ (divided .nearest-u64-to-f642 .ensures) (ten .nearest-u64-to-f64 .ensures) (c .if2 .taken))
+    let start = ten .before in
+    (within .if1 .left, start .pre, compared binary64 _ _ _ _ _ (divided .nearest-u64-to-f642 .ensures) (ten .nearest-u64-to-f64 .ensures) (c .if2 .taken))
 
 returns-3 : tie.Need-returns-3
 returns-3 c = search needs
