@@ -3,7 +3,6 @@
 ghost use Prim.Native.Nat.{_≤_};
 ghost use lib.ListN.{length};
 use morelquilt::ByteLen;
-use morelquilt::Collation;
 use morelquilt::Column;
 use morelquilt::Cursor;
 use morelquilt::Found;
@@ -11,26 +10,23 @@ use morelquilt::Normal;
 use morelquilt::RowRead;
 use morelquilt::RowValue;
 use morelquilt::Scalar;
-use morelquilt::Schema;
 use morelquilt::TypeId;
 use morelquilt::UShortLen;
 use morelquilt::Value;
 use morelquilt::Wrote;
 
-fn column(ty: TypeId, length: u64) -> Column {
-    Column {
-        ty,
-        length,
-        precision: 0,
-        scale: 0,
-        collation: Collation::None,
-        schema: Schema::None,
+// Prints the limit that a value holds.
+fn print(found: Found) {
+    match found {
+        Found::Scalar(v) => match v {
+            Scalar::I32(limit) => {
+                words::signed(bits::signed::of_i32(limit) as u64, 2147483648);
+                words::text(b"\n");
+            }
+            _ => {}
+        },
+        _ => {}
     }
-}
-
-fn print(found: Found, row: &[u8]) {
-    show_value::say_found(found, row, &[], &mut []);
-    words::text(b"\n");
 }
 
 // Reads a row and takes its value.
@@ -40,7 +36,7 @@ fn read_limit(c: Column, row: &[u8]) {
         RowRead::Row(first, _) => {
             let taken = first.value(c, row);
             match taken {
-                RowValue::Value(limit, _) => print(limit, row),
+                RowValue::Value(limit, _) => print(limit),
                 RowValue::Refused(_) => {}
             }
         }
@@ -87,11 +83,11 @@ fn same(c: Column, one: &[u8], other: &[u8]) -> bool {
 }
 
 fn main() {
-    there_and_back(column(TypeId::Byte(ByteLen::Intn), 4), -2);
+    there_and_back(morelquilt::plain(TypeId::Byte(ByteLen::Intn), 4), -2);
     // The bytes AA BB CC, long content of unknown length: in two chunks, and in one.
     let two = b"\xFE\xFF\xFF\xFF\xFF\xFF\xFF\xFF\x01\0\0\0\xAA\x02\0\0\0\xBB\xCC\0\0\0\0";
     let one = b"\xFE\xFF\xFF\xFF\xFF\xFF\xFF\xFF\x03\0\0\0\xAA\xBB\xCC\0\0\0\0";
-    let long = column(TypeId::UShort(UShortLen::BigVarBin), 65535);
+    let long = morelquilt::plain(TypeId::UShort(UShortLen::BigVarBin), 65535);
     if same(long, two, one) {
         words::text(b"the same\n");
     }

@@ -49,6 +49,7 @@ pub use column_type::Name;
 pub use column_type::Schema;
 pub use column_type::TypeId;
 pub use column_type::UShortLen;
+pub use column_type::plain;
 pub use column_write::write_column;
 
 // One column value.

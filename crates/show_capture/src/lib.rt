@@ -1,81 +1,20 @@
 // A capture for a person: a line for each column, where the row ends, and its normal form; or why it
 // is refused, and how far it got.
-mod lines;
-mod refused;
-
 use capture_columns::ColumnsEnd;
 use column_type::Column;
 use cursor::Cursor;
 use normal_step::Normal;
 use read_step::RowRead;
-use row_place::RowPlace;
-use row_place::RowValue;
+use show_line::refused;
 use wire::NumberRead;
-use wire::Refusal;
 use wire::Width;
-
-// The values of a row that was read, a line for each.
-fn show_values(
-    cols: [Column; 1024],
-    count: usize,
-    s: &[u8],
-    first: RowPlace,
-    joined: &[u8],
-    room: &mut [u8],
-) {
-    let mut place = first;
-    let mut i: usize = 0;
-    while i < count {
-        if 1023 < i {
-            return;
-        }
-        let c = cols[i];
-        let taken = place.value(c, s);
-        match taken {
-            RowValue::Value(found, next) => {
-                lines::say_column(i, c);
-                show_value::say_found(found, s, joined, room);
-                words::text(b"\n");
-                place = next;
-            }
-            RowValue::Refused(_) => {
-                return;
-            }
-        }
-        i += 1;
-    }
-}
-
-// A row that was refused: the first column whose value is, and where that begins.
-fn show_stop(e: Refusal, cols: [Column; 1024], count: usize, s: &[u8], cursor: Cursor) {
-    refused::say_refusal(e);
-    let mut place = RowPlace { cursor, copied: 0 };
-    let mut i: usize = 0;
-    while i < count {
-        if 1023 < i {
-            return;
-        }
-        let c = cols[i];
-        let taken = place.value(c, s);
-        match taken {
-            RowValue::Value(_, next) => {
-                place = next;
-            }
-            RowValue::Refused(_) => {
-                refused::say_value(i, c, place.cursor.at);
-                return;
-            }
-        }
-        i += 1;
-    }
-}
 
 // The normal form of the row: its length and its bytes.
 fn show_normal(cols: [Column; 1024], count: usize, s: &[u8], cursor: Cursor, room: &mut [u8]) {
     let made = held_normal::normal_held_row(cols, count, s, cursor, room);
     match made {
         Normal::Bytes(n, _) => {
-            lines::say_normal(&room[..n]);
+            show_line::say_normal(&room[..n]);
         }
         Normal::Refused(e) => {
             refused::say_refusal(e);
@@ -95,13 +34,13 @@ fn show_row(
     let read = held_read::read_held_row(cols, count, s, cursor, joined);
     match read {
         RowRead::Row(first, next) => {
-            lines::say_head();
-            show_values(cols, count, s, first, joined, room);
-            lines::say_end(next.at, s.len());
+            show_line::say_head();
+            show_row::show_values(cols, count, s, first, joined, room);
+            show_line::say_end(next.at, s.len());
             show_normal(cols, count, s, cursor, room);
         }
         RowRead::Refused(e) => {
-            show_stop(e, cols, count, s, cursor);
+            show_row::show_stop(e, cols, count, s, cursor);
         }
     }
 }

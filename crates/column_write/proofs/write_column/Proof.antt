@@ -18,8 +18,12 @@ use Rattle.column_write.proofs.write_column.Tie as tie
 abbrev told : tie.Start → D.Column
 told start = columnTold (start .args .names .now) (start .args .c)
 
+-- where the call began, from where its size was found
+abbrev began : tie.After-n → tie.Start
+began c = c .before .before .before .before .before
+
 -- the size that was found
-found : (c : tie.After-n) → gives (c .n .given .0 .0) ≡ wrote (writeColumn (told (c .before .before .before .before .before)))
+found : (c : tie.After-n) → gives (c .n .given .0 .0) ≡ wrote (writeColumn (told (began c)))
 found c = sym (ap wroteTold (c .n .given .1)) ∙ c .before .before .column-size .ensures
 
 column-size-requires : tie.Need-column-size-requires
@@ -31,13 +35,13 @@ enum-known-n c = search needs
 returns : tie.Need-returns
 returns c =
     let named = c .before .before in
-    let start = named .before .before .before .before .before in
+    let start = began named in
     sized-short (start .args .out .now) (named .n .given .0 .0) (writeColumn (told start)) (found named) (c .if1 .taken)
 
 put-column-requires : tie.Need-put-column-requires
 put-column-requires c κs =
     let named = c .before .before .before in
-    let start = named .before .before .before .before .before in
+    let start = began named in
     let z = sized (told start) (named .n .given .0 .0) (found named) in
     (z .1, omega (arith, z .2))
 
@@ -52,7 +56,7 @@ returns-2 c =
     let put = c .before .before in
     let roomy = put .before .before in
     let named = roomy .before .before in
-    let start = named .before .before .before .before .before in
+    let start = began named in
     let out = start .args .out .now in
     let n = named .n .given .0 .0 in
     let z = sized (told start) n (found named) in

@@ -10,9 +10,13 @@ use Rattle.wire.proofs.Writing.{sized-fits, sized-written}
 use Rattle.text.proofs.to_utf16.Statement.{statement}
 use Rattle.text.proofs.to_utf16.Tie as tie
 
+-- where the call began, from where its size was found
+abbrev began : tie.After-size → tie.Start
+began c = c .before .before .before .before .before
+
 -- the size that was found
 found : (c : tie.After-size) →
-    let start = c .before .before .before .before .before in
+    let start = began c in
     gives (c .size .given .0 .0) ≡ wrote (textIn (now (start .args .s)))
 found c = sym (ap wroteTold (c .size .given .1)) ∙ c .before .before .utf16-size .ensures
 
@@ -25,7 +29,7 @@ enum-known-size c = search needs
 returns : tie.Need-returns
 returns c =
     let after-size = c .before .before in
-    let start = after-size .before .before .before .before .before in
+    let start = began after-size in
     let a = start .args in
     sized-short (now (a .out)) (after-size .size .given .0 .0) (textIn (now (a .s))) (found after-size) (c .if1 .taken)
 
@@ -33,7 +37,7 @@ write-utf16-requires : tie.Need-write-utf16-requires
 write-utf16-requires c κs =
     let in-if1 = c .before in
     let after-size = in-if1 .before .before in
-    let start = after-size .before .before .before .before .before in
+    let start = began after-size in
     let a = start .args in
     sized-fits (now (a .out)) (after-size .size .given .0 .0) (textIn (now (a .s))) (found after-size) (in-if1 .if1 .left)
 
@@ -48,7 +52,7 @@ returns-2 c =
     let after-write-utf16 = c .before .before in
     let in-if1 = after-write-utf16 .before .before in
     let after-size = in-if1 .before .before in
-    let start = after-size .before .before .before .before .before in
+    let start = began after-size in
     let a = start .args in
     sized-written (now (a .out)) (after-size .size .given .0 .0) (textIn (now (a .s))) _ (found after-size) (in-if1 .if1 .left)
     (after-write-utf16 .write-utf16 .ensures)

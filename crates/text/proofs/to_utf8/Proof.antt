@@ -10,9 +10,13 @@ use Rattle.wire.proofs.Writing.{sized-fits, sized-written}
 use Rattle.text.proofs.to_utf8.Statement.{statement}
 use Rattle.text.proofs.to_utf8.Tie as tie
 
+-- where the call began, from where its size was found
+abbrev began : tie.After-size → tie.Start
+began c = c .before .before .before .before .before
+
 -- the size that was found
 found : (c : tie.After-size) →
-    let start = c .before .before .before .before .before in
+    let start = began c in
     gives (c .size .given .0 .0) ≡ wrote (textOut (now (start .args .u)))
 found c = sym (ap wroteTold (c .size .given .1)) ∙ c .before .before .utf8-size .ensures
 
@@ -25,7 +29,7 @@ enum-known-size c = search needs
 returns : tie.Need-returns
 returns c =
     let after-size = c .before .before in
-    let start = after-size .before .before .before .before .before in
+    let start = began after-size in
     let a = start .args in
     sized-short (now (a .out)) (after-size .size .given .0 .0) (textOut (now (a .u))) (found after-size) (c .if1 .taken)
 
@@ -33,7 +37,7 @@ write-utf8-requires : tie.Need-write-utf8-requires
 write-utf8-requires c κs =
     let in-if1 = c .before in
     let after-size = in-if1 .before .before in
-    let start = after-size .before .before .before .before .before in
+    let start = began after-size in
     let a = start .args in
     sized-fits (now (a .out)) (after-size .size .given .0 .0) (textOut (now (a .u))) (found after-size) (in-if1 .if1 .left)
 
@@ -48,7 +52,7 @@ returns-2 c =
     let after-write-utf8 = c .before .before in
     let in-if1 = after-write-utf8 .before .before in
     let after-size = in-if1 .before .before in
-    let start = after-size .before .before .before .before .before in
+    let start = began after-size in
     let a = start .args in
     sized-written (now (a .out)) (after-size .size .given .0 .0) (textOut (now (a .u))) _ (found after-size) (in-if1 .if1 .left)
     (after-write-utf8 .write-utf8 .ensures)

@@ -16,8 +16,12 @@ use Rattle.untyped_write.proofs.write_untyped.Tie as tie
 abbrev asked : tie.Start → Answer (List ℕ)
 asked start = writeUntyped (valueTold (start .args .buffer .now) (start .args .v))
 
+-- where the call began, from where its size was found
+abbrev began : tie.After-size → tie.Start
+began c = c .before .before .before .before .before
+
 -- the size that was found
-found : (c : tie.After-size) → gives (c .size .given .0 .0) ≡ wrote (asked (c .before .before .before .before .before))
+found : (c : tie.After-size) → gives (c .size .given .0 .0) ≡ wrote (asked (began c))
 found c = sym (ap wroteTold (c .size .given .1)) ∙ c .before .before .untyped-size .ensures
 
 untyped-size-requires : tie.Need-untyped-size-requires
@@ -29,7 +33,7 @@ enum-known-size c = search needs
 returns : tie.Need-returns
 returns c =
     let sized = c .before .before in
-    let start = sized .before .before .before .before .before in
+    let start = began sized in
     sized-short (start .args .out .now) (sized .size .given .0 .0) (asked start) (found sized) (c .if1 .taken)
 
 slice-relend-prefix-fill-untyped : tie.Need-slice-relend-prefix-fill-untyped
@@ -45,7 +49,7 @@ fill-untyped-requires : tie.Need-fill-untyped-requires
 fill-untyped-requires c κs =
     let roomy = c .before in
     let sized = roomy .before .before in
-    let start = sized .before .before .before .before .before in
+    let start = began sized in
     rw (length-take-le _ (start .args .out .now) (roomy .if1 .left)) (found sized)
 
 enum-known-size-2 : tie.Need-enum-known-size-2
@@ -59,7 +63,7 @@ returns-2 c =
     let filled = c .before .before in
     let roomy = filled .before .before in
     let sized = roomy .before .before in
-    let start = sized .before .before .before .before .before in
+    let start = began sized in
     let out = start .args .out .now in
     let n = sized .size .given .0 .0 in
     let after = front-filled (asked start) out _ n (found sized) (filled .fill-untyped .ensures) in

@@ -17,6 +17,10 @@ use Rattle.untyped_write.proofs.inner.fill_untyped_scalar.Tie as tie
 abbrev bytes : Scalar → List ℕ
 bytes v = byteLenByte (untypedType (kindOf v)) ∷ width (kindOf v) ∷ width (kindOf v) ∷ scalarBytes v
 
+-- where the call began, from where the type byte was put
+abbrev began : tie.After-put-byte → tie.Start
+began c = c .before .before .before .before .before .before .before
+
 kind-of-requires : tie.Need-kind-of-requires
 kind-of-requires c κs = search needs
 
@@ -42,7 +46,7 @@ put-byte-requires c κs =
 put-byte-requires-2 : tie.Need-put-byte-requires-2
 put-byte-requires-2 c κs =
     let after-put-byte = c .before .before .before in
-    let start = after-put-byte .before .before .before .before .before .before .before in
+    let start = began after-put-byte in
     let v = scalarTold (start .args .s) in
     let n = count-is _ _ (bytes v) (start .pre) (untyped-bytes (start .args .s)) in
     omega (arith, n, after-put-byte .put-byte .kept .0)
@@ -51,7 +55,7 @@ put-byte-requires-3 : tie.Need-put-byte-requires-3
 put-byte-requires-3 c κs =
     let after-put-byte2 = c .before .before .before in
     let after-put-byte = after-put-byte2 .before .before .before .before in
-    let start = after-put-byte .before .before .before .before .before .before .before in
+    let start = began after-put-byte in
     let v = scalarTold (start .args .s) in
     let n = count-is _ _ (bytes v) (start .pre) (untyped-bytes (start .args .s)) in
     omega (arith, n, after-put-byte .put-byte .kept .0, after-put-byte2 .put-byte2 .kept .0)
@@ -61,7 +65,7 @@ put-scalar-requires c κs =
     let after-put-byte3 = c .before .before .before in
     let after-put-byte2 = after-put-byte3 .before .before .before .before in
     let after-put-byte = after-put-byte2 .before .before .before .before in
-    let start = after-put-byte .before .before .before .before .before .before .before in
+    let start = began after-put-byte in
     let v = scalarTold (start .args .s) in
     let n = count-is _ _ (bytes v) (start .pre) (untyped-bytes (start .args .s)) in
     omega (arith, n, length-bytes (start .args .s), after-put-byte .put-byte .kept .0, after-put-byte2 .put-byte2 .kept .0, after-put-byte3 .put-byte3 .kept .0)

@@ -12,6 +12,10 @@ use borrow.Author.Needs.{needs}
 use Rattle.value_fill.proofs.inner.fill_plp.Statement.{statement}
 use Rattle.value_fill.proofs.inner.fill_plp.Tie as tie
 
+-- where the call began, from where the eight bytes were put
+abbrev began : tie.After-put-low → tie.Start
+began c = c .before .before .before .before
+
 sub-end : tie.Need-sub-end
 sub-end c =
     let start = c .before .before in
@@ -35,14 +39,14 @@ returns c =
     let after-put-low2 = c .before .before in
     let in-if1 = after-put-low2 .before .before in
     let after-put-low = in-if1 .before .before .before in
-    let start = after-put-low .before .before .before .before in
+    let start = began after-put-low in
     let a = encoded (contentKindTold (start .args .k)) (start .args .s .now) in
     plp-empty a (start .args .out .now) _ (start .pre) (in-if1 .if1 .taken) (rw (after-put-low .put-low .ensures) at (after-put-low2 .put-low2 .ensures))
 
 sub-put-low : tie.Need-sub-put-low
 sub-put-low c =
     let in-if1 = c .before in
-    let start = in-if1 .before .before .before .before .before .before .before in
+    let start = began (in-if1 .before .before .before) in
     let a = encoded (contentKindTold (start .args .k)) (start .args .s .now) in
     omega (arith, plp-chunk a _ (start .pre) (in-if1 .if1 .left) .0)
 
@@ -50,21 +54,21 @@ put-low-requires-3 : tie.Need-put-low-requires-3
 put-low-requires-3 c κs =
     let in-if1 = c .before in
     let after-put-low = in-if1 .before .before .before in
-    let start = after-put-low .before .before .before .before in
+    let start = began after-put-low in
     let a = encoded (contentKindTold (start .args .k)) (start .args .s .now) in
     omega (arith, after-put-low .put-low .kept .0, plp-chunk a _ (start .pre) (in-if1 .if1 .left) .0)
 
 sub-fill-content : tie.Need-sub-fill-content
 sub-fill-content c =
     let in-if1 = c .before .before .before .before in
-    let start = in-if1 .before .before .before .before .before .before .before in
+    let start = began (in-if1 .before .before .before) in
     let a = encoded (contentKindTold (start .args .k)) (start .args .s .now) in
     omega (arith, plp-chunk a _ (start .pre) (in-if1 .if1 .left) .0)
 
 part-fill-content-start : tie.Need-part-fill-content-start
 part-fill-content-start c =
     let in-if1 = c .before .before .before .before in
-    let start = in-if1 .before .before .before .before .before .before .before in
+    let start = began (in-if1 .before .before .before) in
     let a = encoded (contentKindTold (start .args .k)) (start .args .s .now) in
     omega (arith, plp-chunk a _ (start .pre) (in-if1 .if1 .left) .0)
 
@@ -76,7 +80,7 @@ fill-content-requires c κs =
     let after-put-low3 = c .before .before .before in
     let in-if1 = after-put-low3 .before .before in
     let after-put-low = in-if1 .before .before .before in
-    let start = after-put-low .before .before .before .before in
+    let start = began after-put-low in
     let a = encoded (contentKindTold (start .args .k)) (start .args .s .now) in
     let r = plp-chunk a _ (start .pre) (in-if1 .if1 .left) in
     let two = after-put-low3 .put-low3 .last .0 in
@@ -89,7 +93,7 @@ put-low-requires-4 c κs =
     let after-fill-content = c .before .before .before in
     let after-put-low3 = after-fill-content .before .before .before .before in
     let after-put-low = after-put-low3 .before .before .before .before .before in
-    let start = after-put-low .before .before .before .before in
+    let start = began after-put-low in
     let a = encoded (contentKindTold (start .args .k)) (start .args .s .now) in
     let k =
     same-len-mid 12 (length (start .args .out .now) - 4 - 12) (after-put-low3 .put-low3 .last .0)
@@ -106,7 +110,7 @@ returns-2 c =
     let after-put-low3 = after-fill-content .before .before .before .before in
     let in-if1 = after-put-low3 .before .before in
     let after-put-low = in-if1 .before .before .before in
-    let start = after-put-low .before .before .before .before in
+    let start = began after-put-low in
     let a = encoded (contentKindTold (start .args .k)) (start .args .s .now) in
     plp-filled a (start .args .out .now) _ _ _ _ (start .pre) (in-if1 .if1 .left) (after-put-low .put-low .ensures)
     (after-put-low3 .put-low3 .ensures) (after-fill-content .fill-content .ensures) (after-put-low4 .put-low4 .ensures)

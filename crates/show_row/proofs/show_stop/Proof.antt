@@ -1,8 +1,8 @@
--- `show_capture::show_stop` is safe and ends: it goes on by one column at a time. Assumes nothing.
+-- `show_row::show_stop` is safe and ends: it goes on by one column at a time. Assumes nothing.
 use Prim.Native.Nat.{_≤_, _-_}
 use borrow.Author.Needs.{needs}
-use Rattle.show_capture.proofs.show_stop.Statement.{statement}
-use Rattle.show_capture.proofs.show_stop.Tie as tie
+use Rattle.show_row.proofs.show_stop.Statement.{statement}
+use Rattle.show_row.proofs.show_stop.Tie as tie
 
 abbrev Inv-loop : tie.InvT-loop
 Inv-loop count s cols place₀ i₀ place i = i ≤ count

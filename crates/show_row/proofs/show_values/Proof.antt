@@ -1,10 +1,10 @@
--- `show_capture::show_values` is safe and ends: it goes on by one column at a time. Assumes nothing.
+-- `show_row::show_values` is safe and ends: it goes on by one column at a time. Assumes nothing.
 use mathlib.Core.Path.{_≡_}
 use Prim.Native.Nat.{_≤_, _-_}
 use lib.ListN.{length}
 use borrow.Author.Needs.{needs}
-use Rattle.show_capture.proofs.show_values.Statement.{statement}
-use Rattle.show_capture.proofs.show_values.Tie as tie
+use Rattle.show_row.proofs.show_values.Statement.{statement}
+use Rattle.show_row.proofs.show_values.Tie as tie
 
 abbrev Inv-loop : tie.InvT-loop
 Inv-loop count s joined room₀ cols place₀ i₀ t14 room place i = (i ≤ count) × (length room ≡ length room₀)

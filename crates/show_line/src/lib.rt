@@ -1,4 +1,6 @@
-// The lines of a capture that was read.
+// The lines of a capture that was read; those of a refused one stand in `refused`.
+pub mod refused;
+
 use column_type::Column;
 
 // How wide the number of a column and its type are printed.
