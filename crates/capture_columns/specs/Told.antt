@@ -2,9 +2,9 @@
 use Prim.Native.Nat.{ℕ, zero, suc, _+_}
 use mathlib.Core.Path.{_≡_}
 use mathlib.Core.List.{List, map}
-use mathlib.Core.Bool.{false}
 use lib.Dec.{ltb}
 use lib.ListN.{take}
+use Rattle.lists.specs.Pick.{pick}
 use Rattle.format.specs.Answer.{Read, took, stops, readAt}
 use Rattle.format.specs.Descriptor as D
 use Rattle.format.specs.Row.{maxColumns}
@@ -36,10 +36,11 @@ unfoldable pub stopOf : ℕ → List ℕ → ℕ → ℕ → Stop
 stopOf zero s k at = record { columns = k; place = at }
 stopOf (suc n) s k at = stopBehind k at (stopOf n s) (readAt D.readColumn s at)
 
--- a refusal says where it arose; the number of columns is judged before the first
-abbrev pub Stopped : List ℕ → ℕ → ℕ → ColumnsEnd → Type 0
-Stopped s count at (E.End c) = Unit {0}
-Stopped s count at (E.Refused e k c) = record { columns = k; place = c .at } ≡ stopOf count s 0 at
+-- The number of columns is judged before the first: above 1,024 none is read, and the place is the one passed.
+abbrev pub stopAt : ℕ → List ℕ → ℕ → Stop
+stopAt count s at = pick (ltb maxColumns count) (record { columns = 0; place = at }) (stopOf count s 0 at)
 
-abbrev pub StopsAt : List ℕ → ℕ → ℕ → CaptureColumns → Type 0
-StopsAt s count at r = ltb maxColumns count ≡ false → Stopped s count at (r .end)
+-- a refusal says where it arose
+abbrev pub StopsAt : List ℕ → ℕ → ℕ → ColumnsEnd → Type 0
+StopsAt s count at (E.End c) = Unit {0}
+StopsAt s count at (E.Refused e k c) = record { columns = k; place = c .at } ≡ stopAt count s at

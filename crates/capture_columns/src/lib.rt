@@ -26,7 +26,7 @@ pub struct CaptureColumns {
 // As many columns as the capture says it has.
 pub fn read_columns(s: &[u8], cursor: Cursor, count: usize) -> CaptureColumns
     ensures told { λ r. ⌜ columnsReadTold (now (s .entry)) count r ≡ stopIf (ltb maxColumns count) rule (readAt (readColumns count) (now (s .entry)) (cursor .at)) ⌝ }
-    ensures stop { λ r. ⌜ StopsAt (now (s .entry)) count (cursor .at) r ⌝ }
+    ensures stop { λ r. ⌜ StopsAt (now (s .entry)) count (cursor .at) (r .end) ⌝ }
 {
     let none = column_type::plain(TypeId::Xml, 0);
     let mut list = [none; 1024];

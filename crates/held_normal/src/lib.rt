@@ -26,7 +26,8 @@ pub fn normal_held_row(
     ensures room { λ _. ⌜ ((b : List ℕ) → now (out .exit) ≡ roomAfterRead (λ (bytes : List ℕ). bytes) (fittedRead (λ (bytes : List ℕ). bytes) (readAt (countedRead count (normal (firstColumns b cols count))) (now (s .entry)) (cursor .at)) (length (now (out .entry)))) (now (out .entry))) ⌝ }
 {
     if held::inner::too_many(count) {
-        return Normal::Refused(held_read::inner::many(s.len(), cursor));
+        let judged = judge_step::inner::start(count, s.len(), cursor);
+        return normal_step::inner::fit_in(judged, out.len());
     }
     inner::normal_lent(cols, count, s, cursor, out)
 }

@@ -2,12 +2,9 @@
 ghost use mathlib.Core.Path.{_≡_};
 ghost use mathlib.Core.List.{List};
 ghost use Prim.Native.Nat.{ℕ, _≤_};
-ghost use lib.Dec.{ltb};
 ghost use lib.ListN.{length};
-ghost use Rattle.lists.specs.Pick.{pick};
-ghost use Rattle.format.specs.Answer.{mapRead, readAt, fittedRead, roomAfterRead, missing, rule};
+ghost use Rattle.format.specs.Answer.{mapRead, readAt, fittedRead, roomAfterRead};
 ghost use Rattle.format.specs.Row.{readRow, copiedOutRow};
-ghost use Rattle.wire.specs.Told.{refusalTold};
 ghost use Rattle.judge_step.specs.Told.{needsOf, rowJudgedTold};
 ghost use Rattle.read_step.specs.Told.{firstPlace, rowReadTold};
 ghost use Rattle.held_read.specs.Held.{firstColumns};
@@ -15,17 +12,6 @@ use column_type::Column;
 use cursor::Cursor;
 use judge_step::RowJudged;
 use read_step::RowRead;
-use wire::Refusal;
-
-// Why a row of more columns than there are places cannot be read. The place comes before the count.
-pub fn many(size: usize, cursor: Cursor) -> Refusal
-    ensures { λ r. ⌜ refusalTold r ≡ pick (ltb size (cursor .at)) missing rule ⌝ }
-{
-    if size < cursor.at {
-        return Refusal::Missing;
-    }
-    Refusal::Rule
-}
 
 // `row_judge::judge_row` of the first columns.
 pub fn judge_lent(cols: [Column; 1024], count: usize, s: &[u8], cursor: Cursor) -> RowJudged

@@ -21,7 +21,7 @@ pub fn judge_held_row(cols: [Column; 1024], count: usize, s: &[u8], cursor: Curs
     ensures { λ r. ⌜ ((b : List ℕ) → rowJudgedTold r ≡ mapRead (needsOf (firstColumns b cols count)) (readAt (countedRead count (readRow (firstColumns b cols count))) (now (s .entry)) (cursor .at))) ⌝ }
 {
     if held::inner::too_many(count) {
-        return RowJudged::Refused(inner::many(s.len(), cursor));
+        return judge_step::inner::start(count, s.len(), cursor);
     }
     inner::judge_lent(cols, count, s, cursor)
 }
@@ -39,7 +39,8 @@ pub fn read_held_row(
     ensures room { λ _. ⌜ ((b : List ℕ) → now (out .exit) ≡ roomAfterRead (copiedOutRow (firstColumns b cols count)) (fittedRead (copiedOutRow (firstColumns b cols count)) (readAt (countedRead count (readRow (firstColumns b cols count))) (now (s .entry)) (cursor .at)) (length (now (out .entry)))) (now (out .entry))) ⌝ }
 {
     if held::inner::too_many(count) {
-        return RowRead::Refused(inner::many(s.len(), cursor));
+        let judged = judge_step::inner::start(count, s.len(), cursor);
+        return read_step::inner::answer(judged, cursor);
     }
     inner::read_lent(cols, count, s, cursor, out)
 }

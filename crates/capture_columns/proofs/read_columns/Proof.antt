@@ -9,14 +9,13 @@ use native.Mathlib.Omega.{arith}
 use lib.Dec.{ltb}
 use lib.ListN.{length, take, length-set}
 use borrow.Author.Tests.{lt-ltb, le-ltb}
-use Rattle.lists.proofs.Split.{clash}
 use borrow.Author.Needs.{needs}
 use Rattle.format.specs.Answer.{Read, took, rule, stopIf, readAt}
 use Rattle.format.specs.Descriptor as D
 use Rattle.format.specs.Row.{maxColumns, readColumns}
 use Rattle.format.proofs.Place.{at-behind}
 use Rattle.column_type.specs.Told.{columnTold, columnReadTold}
-use Rattle.capture_columns.specs.Told.{stopOf}
+use Rattle.capture_columns.specs.Told.{stopOf, stopAt}
 use Rattle.capture_columns.proofs.Reading.{readLeft, left-begins, left-more, left-stops, left-ends}
 use Rattle.capture_columns.proofs.Reading.{stop-begins, stop-goes-on, stop-is, stop-behind, column-inside, held-more}
 use Rattle.capture_columns.proofs.read_columns.Statement.{statement}
@@ -44,10 +43,13 @@ startOf turn = turn .before .before .before .before .before .before
 abbrev asked : tie.Start Inv-loop μ-loop → Read (List D.Column)
 asked start = readAt (readColumns (start .args .count)) (start .args .s .now) (start .args .cursor .at)
 
--- the number of columns is kept
+-- the number of columns is kept: what is read then, and where it stops
 listed : (start : tie.Start Inv-loop μ-loop) → start .args .count ≤ 1024 →
     stopIf (ltb maxColumns (start .args .count)) rule (asked start) ≡ asked start
 listed start l = ap (λ (b : Bool). stopIf b rule (asked start)) (le-ltb 1024 (start .args .count) l)
+
+stops-inside : (count : ℕ) (s : List ℕ) (at : ℕ) → count ≤ 1024 → stopAt count s at ≡ stopOf count s 0 at
+stops-inside count s at l = rw (le-ltb 1024 count l)
 
 plain-requires : tie.Need-plain-requires Inv-loop μ-loop
 plain-requires c κs = search needs
@@ -56,7 +58,7 @@ returns : tie.Need-returns Inv-loop μ-loop
 returns c =
     let start = c .before .before .before in
     let many = lt-ltb 1024 (start .args .count) (c .if1 .taken) in
-    (ap (λ (b : Bool). stopIf b rule (asked start)) (sym many), λ few. clash (let z = sym many ∙ few in cc))
+    (ap (λ (b : Bool). stopIf b rule (asked start)) (sym many), rw many)
 
 returns-2 : tie.Need-returns-2 Inv-loop μ-loop
 returns-2 c =
@@ -65,7 +67,10 @@ returns-2 c =
     let s = start .args .s .now in
     let count = start .args .count in
     let at = start .args .cursor .at in
-    (sym (listed start (counted .if1 .left) ∙ at-behind (readColumns count) s at (c .if2 .taken)), λ few. sym (stop-behind s count at (c .if2 .taken)))
+    let few = counted .if1 .left in (
+      sym (listed start few ∙ at-behind (readColumns count) s at (c .if2 .taken)),
+      sym (stops-inside count s at few ∙ stop-behind s count at (c .if2 .taken)),
+    )
 
 loop-holds : tie.Need-loop-holds Inv-loop μ-loop
 loop-holds c =
@@ -138,7 +143,7 @@ returns-3 c =
     let cols = map (columnTold s) (take i (turn .loop .list)) in
     let e = sym (read .read-column .ensures .0) ∙ ap (columnReadTold s) (known .r2 .given .1) in (
       sym (listed start (inv .1) ∙ (inv .4 ∙ left-stops s count i less cols at _ e)),
-      λ few. sym (inv .5 ∙ stop-is s count i less [] at i _ e),
+      sym (stops-inside count s (start .args .cursor .at) (inv .1) ∙ (inv .5 ∙ stop-is s count i less [] at i _ e)),
     )
 
 returns-4 : tie.Need-returns-4 Inv-loop μ-loop
@@ -154,7 +159,7 @@ returns-4 c =
     let all : i ≡ count = le-antisymm (inv .0) (c .loop-test .left) in
     let ends = inv .4 ∙ left-ends s count i cols at (inv .0) (c .loop-test .left) (inv .3) in (
       sym (listed start (inv .1) ∙ (ends ∙ ap (λ (n : ℕ). took (map (columnTold s) (take n (turn .loop .list))) at) all)),
-      λ few. tt,
+      tt,
     )
 
 pub read-columns-spec : {M : Type 1} → statement M

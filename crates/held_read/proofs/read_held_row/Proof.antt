@@ -1,7 +1,8 @@
 -- `held_read::read_held_row` meets its contract: the count, then the call that lends. Assumes nothing.
-use mathlib.Core.Path.{sym, _∙_}
+use mathlib.Core.Path.{refl, sym, _∙_}
 use native.Mathlib.Omega.{arith}
 use borrow.Author.Needs.{needs}
+use Rattle.format.specs.Answer.{mapRead}
 use Rattle.format.specs.Row.{readRow, copiedOutRow}
 use Rattle.read_step.specs.Told.{firstPlace}
 use Rattle.held.proofs.Counted.{few}
@@ -13,20 +14,21 @@ use Rattle.held_read.proofs.read_held_row.Tie as tie
 too-many-requires : tie.Need-too-many-requires
 too-many-requires c κs = search needs
 
-many-requires : tie.Need-many-requires
-many-requires c κs = search needs
+start-requires : tie.Need-start-requires
+start-requires c κs = search needs
+
+answer-requires : tie.Need-answer-requires
+answer-requires c κs = search needs
 
 returns : tie.Need-returns
 returns c =
-    let counted = c .before .before in
+    let started = c .before in
+    let counted = started .before .before in
     let a = counted .before .before .before .args in
-    let at = a .cursor .at in
-    let h = sym (counted .too-many .ensures) ∙ c .before .if1 .taken in (
-      λ b. many-leaves (λ vs. firstPlace at) (copiedOutRow (firstColumns b (a .cols) (a .count))) (a .count) (readRow (firstColumns b (a .cols) (a .count)))
-          (a .s .now) at _ (a .out .now) h (c .many .ensures) .0,
-      λ b. many-leaves (λ vs. firstPlace at) (copiedOutRow (firstColumns b (a .cols) (a .count))) (a .count) (readRow (firstColumns b (a .cols) (a .count)))
-          (a .s .now) at _ (a .out .now) h (c .many .ensures) .1,
-    )
+    let h = sym (counted .too-many .ensures) ∙ started .before .if1 .taken in
+    many-leaves (a .count) (a .s .now) (a .cursor .at) h (started .start .ensures) (λ b. readRow (firstColumns b (a .cols) (a .count)))
+    (λ b. copiedOutRow (firstColumns b (a .cols) (a .count))) (λ vs. firstPlace (a .cursor .at)) (a .out .now)
+    (mapRead (λ n. firstPlace (a .cursor .at))) (λ e. refl) (c .answer .ensures)
 
 read-lent-requires : tie.Need-read-lent-requires
 read-lent-requires c κs =
@@ -49,4 +51,4 @@ returns-2 c =
     )
 
 pub read-held-row-spec : {M : Type 1} → statement M
-read-held-row-spec = tie.close (tie.spec too-many-requires many-requires returns read-lent-requires same-length returns-2)
+read-held-row-spec = tie.close (tie.spec too-many-requires start-requires answer-requires returns read-lent-requires same-length returns-2)
