@@ -4,6 +4,8 @@
   what its contract is, and at least two must-fail edits that are wrong programs: edits of code, not of
   a promise or a definition. Its words are the contract's own.
 - Every other `pub fn` of a library stands under "Not public", by its path, its module or its crate.
+- A module `inner`, whose functions may ask something of their caller, says at its head for whom it is: for the crates of
+  this repository, and one of them uses it, or for its crate alone.
 - Every must-fail edit changes lines that are there.
 - Every op of the cases is answered by the replay program (cases/ops.txt) or still to come
   (cases/to-come.txt), and replay's lines are as many as the cases of its ops.
@@ -11,6 +13,7 @@
 """
 import collections
 import hashlib
+import itertools
 import json
 import pathlib
 import re
@@ -166,6 +169,19 @@ def hidden_faults(page, sources, public):
         yield '%s is on the list "Not public", and has no `pub fn`' % name
 
 
+def inner_faults(root):
+    """A module `inner` says for whom it is."""
+    sources = {path: path.read_text() for path in root.glob('crates/*/src/**/*.rt')}
+    for path in sorted(root.glob('crates/*/src/inner.rt')):
+        crate = path.parent.parent.name
+        head = ' '.join(line.lstrip('/ ') for line in itertools.takewhile(lambda line: line.startswith('//'), sources[path].splitlines()))
+        public = 'pub mod inner;' in sources[path.with_name('lib.rt')]
+        if ('for the crates of this repository' if public else 'For this crate alone') not in head:
+            yield '%s does not say for whom it is' % path.relative_to(root)
+        if public and not any(re.search(r'\b%s::inner\b' % crate, text) for other, text in sources.items() if other.parent.parent != path.parent.parent):
+            yield '%s is for no crate but its own, and is public' % path.relative_to(root)
+
+
 def edit_faults(root):
     """A must-fail edit changes lines that are there: each `old:` stands once in its file."""
     for path in sorted(root.glob('crates/*/must-fail/*.edit')):
@@ -205,5 +221,6 @@ def faults(root):
     sources = Sources(root)
     for fault in public_faults(root, sources):
         yield 'docs/PUBLIC.md: ' + fault
+    yield from inner_faults(root)
     yield from edit_faults(root)
     yield from case_faults(root)

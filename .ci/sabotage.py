@@ -61,6 +61,8 @@ NAMES_AND_LISTS = [
     Sabotage('docs/PUBLIC.md', '| `column_size::column_size` |', '| `column_write::write_column` |', 'morelquilt::column_size is proved as column_size::column_size'),
     Sabotage('docs/PUBLIC.md', '`text!room_one_short`, ', '`value_write!room_one_short`, ', 'morelquilt::to_utf16 does not use the crate of value_write!room_one_short'),
     Sabotage('docs/PUBLIC.md', ', and the room afterwards ≡ `roomAfterJoin text s at room`', '', 'morelquilt::Cursor::join_plp has a room, and its row does not say roomAfterJoin'),
+    Sabotage('crates/columns/src/inner.rt', ', for the crates of this repository.', '.', 'crates/columns/src/inner.rt does not say for whom it is'),
+    Sabotage('crates/untyped_write/src/lib.rt', 'mod inner;', 'pub mod inner;', 'crates/untyped_write/src/inner.rt is for no crate but its own, and is public'),
     # edits and crates
     Sabotage('crates/header/must-fail/id_twice.edit', '', None, 'there is no must-fail edit header!id_twice'),
     Sabotage('crates/header/must-fail/seven_written.edit', 'old: Wrote::Bytes(8)', 'old: Wrote::Bytes(88)',

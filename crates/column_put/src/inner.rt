@@ -1,5 +1,5 @@
-// The writing pass of a descriptor. It cannot fail: a caller lends as many bytes as the size pass
-// found.
+// The writing pass of a descriptor, for the crates of this repository. It cannot fail: a caller lends
+// as many bytes as the size pass found.
 ghost use mathlib.Core.Path.{_≡_};
 ghost use mathlib.Core.Bool.{true};
 ghost use mathlib.Core.List.{_++_};

@@ -1,5 +1,5 @@
-// The thin functions that take a lent list apart. Whoever stands above them works on one record by
-// value, and knows nothing of how a list is stored.
+// The thin functions that take a lent list apart, for the crates of this repository. Whoever stands
+// above them works on one record by value, and knows nothing of how a list is stored.
 ghost use mathlib.Core.Path.{_≡_};
 ghost use Prim.Native.Nat.{_<_};
 ghost use lib.ListN.{length, getD};

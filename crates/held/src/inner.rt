@@ -1,4 +1,5 @@
-// The thin functions that lend: the first `count` records of an array, for the time of one call.
+// The thin functions that lend, for the crates of this repository: the first `count` records of an
+// array, for the time of one call.
 ghost use mathlib.Core.Path.{_≡_};
 ghost use Prim.Native.Nat.{_≤_};
 ghost use lib.ListN.{length};

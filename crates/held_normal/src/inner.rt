@@ -1,4 +1,5 @@
-// The thin function that lends: the first `count` columns of an array, for the time of the call.
+// The thin function that lends: the first `count` columns of an array, for the time of the call. For
+// this crate alone.
 ghost use mathlib.Core.Path.{_≡_};
 ghost use mathlib.Core.List.{List};
 ghost use Prim.Native.Nat.{ℕ, _≤_};

@@ -12,7 +12,7 @@ use column_type::Column;
 use cursor::Cursor;
 use normal_step::Normal;
 
-pub mod inner;
+mod inner;
 
 // The normal form of the row at the cursor: how many bytes it has, and where the row ends.
 pub fn normal_held_row(

@@ -1,4 +1,5 @@
-// The thin functions that lend: the first `count` columns of an array, for the time of one call.
+// The thin functions that lend: the first `count` columns of an array, for the time of one call. For
+// this crate alone.
 ghost use mathlib.Core.Path.{_≡_};
 ghost use mathlib.Core.List.{List};
 ghost use Prim.Native.Nat.{ℕ, _≤_};

@@ -14,7 +14,7 @@ use cursor::Cursor;
 use judge_step::RowJudged;
 use read_step::RowRead;
 
-pub mod inner;
+mod inner;
 
 // What the row at the cursor needs, or why it cannot be read.
 pub fn judge_held_row(cols: [Column; 1024], count: usize, s: &[u8], cursor: Cursor) -> RowJudged

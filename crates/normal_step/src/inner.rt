@@ -1,4 +1,4 @@
-// The steps of the copying pass, each on one column by value.
+// The steps of the copying pass, for the crates of this repository, each on one column by value.
 ghost use mathlib.Core.Path.{_≡_};
 ghost use mathlib.Core.List.{[]};
 ghost use lib.ListN.{length, drop};

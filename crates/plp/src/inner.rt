@@ -1,4 +1,5 @@
-// Leaves that ask something of their caller: a head whose four bytes are there.
+// Leaves that ask something of their caller: a head whose four bytes are there. For this crate
+// alone.
 ghost use mathlib.Core.Path.{_≡_};
 ghost use Prim.Native.Nat.{_+_, _≤_};
 ghost use lib.ListN.{length};

@@ -1,5 +1,5 @@
 // PLP values: the eight bytes and the chunk walk with its allowance.
-pub mod inner;
+mod inner;
 mod rules;
 
 ghost use mathlib.Core.Path.{_≡_};

@@ -1,6 +1,6 @@
 // The lists of a frame: a count in two bytes, then that many columns or values. A list is held in an
 // array of 1,024 places; a count above them is handed on as it is, and the call refuses it.
-ghost use Prim.Native.Nat.{_≤_};
+ghost use Prim.Native.Nat.{_<_, _≤_};
 use column_type::Column;
 use column_type::TypeId;
 use replay_say::fields;
@@ -8,19 +8,21 @@ use value_kind::Value;
 use wire::Width;
 
 // How many records the list at a place says it has.
-pub fn count(frame: &[u8], at: usize) -> usize {
+pub fn count(frame: &[u8], at: usize) -> usize
+    ensures { λ r. ⌜ r < 65536 ⌝ }
+{
     (fields::low(frame, at, Width::Two) % 65536) as usize
 }
 
 // The place behind the columns at a place.
 pub fn behind_columns(frame: &[u8], at: usize) -> usize {
-    let n = count(frame, at) % 65536;
+    let n = count(frame, at);
     fields::after(at, 2 + n * 66)
 }
 
 // The place behind the values at a place.
 pub fn behind_values(frame: &[u8], at: usize) -> usize {
-    let n = count(frame, at) % 65536;
+    let n = count(frame, at);
     fields::after(at, 2 + n * 17)
 }
 

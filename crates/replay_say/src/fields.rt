@@ -14,14 +14,9 @@ pub fn byte(frame: &[u8], at: usize) -> u8 {
     }
 }
 
-// A place further on; frames are short, so the sum is exact for every frame that occurs.
+// A place further on.
 pub fn after(at: usize, n: usize) -> usize {
-    if at < 4294967296 {
-        if n < 4294967296 {
-            return at + n;
-        }
-    }
-    at
+    words::both(at, n)
 }
 
 pub fn low(frame: &[u8], at: usize, w: Width) -> u64 {

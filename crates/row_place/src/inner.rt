@@ -1,5 +1,5 @@
-// A value in the rest of a row, for the crates of this repository: it takes what it needs of the
-// column, not the record, which would be copied at every call.
+// A value in the rest of a row: it takes what it needs of the column, not the record, which would be
+// copied at every call. For this crate alone.
 ghost use mathlib.Core.Path.{_≡_};
 ghost use mathlib.Core.Bool.{true};
 ghost use Prim.Native.Nat.{_+_, _≤_};

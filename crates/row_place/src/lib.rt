@@ -1,5 +1,5 @@
 // A place in a row, and the value that stands there. Nothing is copied and nothing is written.
-pub mod inner;
+mod inner;
 
 ghost use mathlib.Core.Path.{_≡_};
 ghost use mathlib.Core.List.{List};

@@ -1,4 +1,5 @@
-// The steps of both passes, each on one column and one value by value.
+// The steps of both passes, for the crates of this repository, each on one column and one value by
+// value.
 ghost use mathlib.Core.Path.{_≡_};
 ghost use Prim.Native.Nat.{_+_};
 ghost use lib.ListN.{length};

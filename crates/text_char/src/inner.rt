@@ -1,6 +1,5 @@
 // Leaves that ask something of their caller: the rest of a character whose first byte has chosen its
-// row, a unit that is there, and a scalar value or a whole text written into room that it fits. For
-// this crate alone.
+// row, and units that are there. For this crate alone.
 ghost use mathlib.Core.Path.{_≡_};
 ghost use Prim.Native.Nat.{_+_, _-_, _≤_, _<_};
 ghost use lib.ListN.{length, getD, drop};

@@ -1,5 +1,5 @@
 // UTF-8 to UTF-16LE and back. A first pass judges the text and finds the size, a second one writes.
-pub mod inner;
+mod inner;
 pub mod utf16;
 pub mod utf8;
 

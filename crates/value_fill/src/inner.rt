@@ -1,5 +1,6 @@
-// The writing pass. It fills the room that it is lent to its last byte, and cannot fail: a caller
-// lends as many bytes as the size pass found. Empty arms are those that the size pass has refused.
+// The writing pass, for the crates of this repository. It fills the room that it is lent to its last
+// byte, and cannot fail: a caller lends as many bytes as the size pass found. Empty arms are those
+// that the size pass has refused.
 ghost use mathlib.Core.Path.{_≡_};
 ghost use mathlib.Core.Bool.{true};
 ghost use Prim.Native.Nat.{_+_, _≤_};

@@ -1,6 +1,6 @@
-// The copying pass, which cannot fail: the row was judged and the room is there. Bytes that are in
-// normal form already lengthen a run; a run is copied in one piece where other bytes must be put
-// behind it.
+// The copying pass, for the crates of this repository. It cannot fail: the row was judged and the room
+// is there. Bytes that are in normal form already lengthen a run; a run is copied in one piece where
+// other bytes must be put behind it.
 ghost use mathlib.Core.Path.{_≡_};
 ghost use mathlib.Core.List.{[], _∷_, _++_};
 ghost use mathlib.Core.Option.{some};

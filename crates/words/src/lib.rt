@@ -13,7 +13,7 @@ pub fn text(s: &[u8]) -> usize {
     s.len()
 }
 
-// Two counts of printed bytes. Lines are short, so the sum is exact for every line that occurs.
+// Two counts together. Lines and frames are short, so the sum is exact for every one that occurs.
 pub fn both(a: usize, b: usize) -> usize {
     if a < 4294967296 {
         if b < 4294967296 {
