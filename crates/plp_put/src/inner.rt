@@ -5,7 +5,6 @@ ghost use mathlib.Core.Option.{some};
 ghost use lib.ListN.{length};
 ghost use Rattle.format.specs.Plp.{readPlp, plpBytes};
 ghost use Rattle.plp_join.specs.Told.{IsContent, contentOf};
-use wire::marks;
 
 // Unknown length, the chunks joined to one, and the last zero; empty content is the zero alone. It
 // fills the room that it is lent to its last byte.
@@ -13,13 +12,6 @@ pub fn put_plp(rest: &[u8], text: bool, out: &mut [u8])
     requires { ⌜ IsContent (readPlp text (now rest)) × (length (now out) ≡ length (plpBytes (some (contentOf text (now rest))))) ⌝ }
     ensures { λ _. ⌜ now (out .exit) ≡ plpBytes (some (contentOf text (now (rest .entry)))) ⌝ }
 {
-    let end = out.len() - 4;
-    wire::inner::put_low(out, 0, marks::PLP_UNKNOWN, 8);
-    if end == 8 {
-        wire::inner::put_low(out, 8, 0, 4);
-        return;
-    }
-    wire::inner::put_low(out, 8, (end - 12) as u64, 4);
+    let end = plp_frame::inner::put_frame(out);
     plp_join::inner::copy_chunks(rest, text, &mut out[12..end]);
-    wire::inner::put_low(out, end, 0, 4);
 }

@@ -88,15 +88,8 @@ fn fill_plp(k: ContentKind, s: &[u8], out: &mut [u8])
     requires { ⌜ gives (length (now out)) ≡ wrote (inForm true (encoded (contentKindTold k) (now s))) ⌝ }
     ensures { λ _. ⌜ gives (now (out .exit)) ≡ inForm true (encoded (contentKindTold k) (now (s .entry))) ⌝ }
 {
-    let end = out.len() - 4;
-    wire::inner::put_low(out, 0, marks::PLP_UNKNOWN, 8);
-    if end == 8 {
-        wire::inner::put_low(out, 8, 0, 4);
-        return;
-    }
-    wire::inner::put_low(out, 8, (end - 12) as u64, 4);
+    let end = plp_frame::inner::put_frame(out);
     fill_content(k, s, &mut out[12..end]);
-    wire::inner::put_low(out, end, 0, 4);
 }
 
 // Content in its form.

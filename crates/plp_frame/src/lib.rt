@@ -1,0 +1,2 @@
+// What stands around PLP content in the writer's form.
+pub mod inner;
