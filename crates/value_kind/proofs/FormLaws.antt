@@ -2,9 +2,9 @@
 -- Assumes nothing.
 use mathlib.Core.Path.{_≡_, refl, sym, ap, _∙_}
 use mathlib.Core.Bool.{Bool, true, false, not}
-use mathlib.Core.List.{List, [], _∷_, _++_, append-assoc}
+use mathlib.Core.List.{List, [], _++_}
 use mathlib.Core.Option.{Option, none, some}
-use Prim.Native.Nat.{ℕ, suc, _+_, _-_, _<_, _≤_}
+use Prim.Native.Nat.{ℕ, suc, _+_, _-_, _≤_}
 use native.Mathlib.Omega.{arith}
 use native.Mathlib.Nat.{zero-add}
 use lib.ListN.{length, length-append}
@@ -16,7 +16,7 @@ use Rattle.lists.proofs.Split.{clash}
 use Rattle.lists.proofs.Front.{sets-then}
 use Rattle.format.specs.Answer.{Answer, gives, refuses, missing, kind, long, notCarried, andThen, wrote, Part, part}
 use Rattle.format.specs.Number.{lowBytes}
-use Rattle.format.specs.Plp.{plpMark, plpUnknown, plpBytes}
+use Rattle.format.specs.Plp.{plpMark}
 use Rattle.format.specs.Value.{ContentKind, Family, fixedWidth, lengthByte, content, contentBound, writeFamily, writeUntyped}
 use Rattle.value_kind.specs.Form.{givenOf, encodedPart, formed, inForm, framed, shortUpTo, untypedHead, untypedLimit}
 use Rattle.value_kind.proofs.ContentLaws.{no-fixed, no-listed, content-framed, span-outside, untyped-span}
@@ -53,66 +53,6 @@ short-filled a out one ys new h w e s =
     let p = lent-sets one ys 2 (length one - 2) (omega (arith, z, r .0)) (omega (arith, z, l)) in
     filled (inForm false a) out new (lowBytes 2 (length ys) ++ ys) h (rw (← e))
     (s ∙ (p ∙ (ap (λ (x : List ℕ). sets x 2 ys) w ∙ (sets-then out 0 2 (lowBytes 2 n) ys refl ∙ ap (λ (m : ℕ). sets out 0 (lowBytes 2 m ++ ys)) l))))
-
--- ---- the PLP form
-
-none-left : (c : List ℕ) → length c ≡ 0 → c ≡ []
-none-left [] h = refl
-none-left (b ∷ bs) h = absurd (omega arith)
-
-plp-count : (c : List ℕ) →
-    (12 ≤ length (formed true c)) × (length (formed true c) ≡ 12 → length c ≡ 0)
-    × ((length (formed true c) ≡ 12 → ⊥) → (0 < length c) × (length (formed true c) ≡ 16 + length c))
-unfolding plpBytes
-plp-count [] = (omega arith, λ e. refl, λ f. absurd (f refl))
-plp-count (b ∷ bs) =
-    let l : length (formed true (b ∷ bs)) ≡ 16 + length (b ∷ bs) = simp length-append (omega arith)
-    in (omega arith, λ e. absurd (omega arith), λ f. (omega arith, l))
-
-module _ (a : Answer (List ℕ)) (n : ℕ) (h : gives n ≡ wrote (inForm true a)) where
-  pub plp-room : 12 ≤ n
-  plp-room = let f = form-content true a n h in rw (f .2) (plp-count (f .0) .0)
-
-  pub plp-chunk : (n - 4 ≡ 8 → ⊥) → (16 < n) × (gives (n - 16) ≡ wrote a)
-  plp-chunk g =
-      let f = form-content true a n h in
-      let k = plp-count (f .0) .2 (λ e. g (let m = f .2 in omega arith)) in
-      let m = f .2 in
-      (omega arith, gives-count a (f .0) (n - 16) (f .1) (omega arith))
-
-pub plp-empty : (a : Answer (List ℕ)) (out new : List ℕ) → gives (length out) ≡ wrote (inForm true a) → length out - 4 ≡ 8
-    → new ≡ sets (sets out 0 (lowBytes 8 plpUnknown)) 8 (lowBytes 4 0) → gives new ≡ inForm true a
-unfolding plpBytes
-plp-empty a out new h i s =
-    let f = form-content true a (length out) h in
-    let r = plp-room a (length out) h in
-    let m = f .2 in
-    let z = none-left (f .0) (plp-count (f .0) .1 (omega arith)) in
-    filled (inForm true a) out new (lowBytes 8 plpUnknown ++ lowBytes 4 0) h (rw (f .1, z)) (s ∙ sets-then out 0 8 (lowBytes 8 plpUnknown) (lowBytes 4 0) refl)
-
--- unknown length, the chunk's head, the chunk and the last zero
-one-chunk : (c : List ℕ) → 0 < length c → formed true c ≡ ((lowBytes 8 plpUnknown ++ lowBytes 4 (length c)) ++ c) ++ lowBytes 4 0
-unfolding plpBytes
-one-chunk [] h = absurd (omega arith)
-one-chunk (b ∷ bs) h = simp append-assoc
-
-pub plp-filled : (a : Answer (List ℕ)) (out one two ys new : List ℕ) → let end = length out - 4 in gives (length out) ≡ wrote (inForm true a) → (end ≡ 8 → ⊥)
-    → one ≡ sets out 0 (lowBytes 8 plpUnknown) → two ≡ sets one 8 (lowBytes 4 (end - 12)) → gives ys ≡ a
-    → new ≡ sets (putMid 12 (end - 12) two ys) end (lowBytes 4 0) → gives new ≡ inForm true a
-plp-filled a out one two ys new h g f t e s =
-    let end = length out - 4 in
-    let r = plp-chunk a (length out) h g in
-    let l = count-is a (length out - 16) ys (r .1) (sym e) in
-    let n : end - 12 ≡ length ys = omega (arith, r .0) in
-    let head = lowBytes 8 plpUnknown in
-    let size = lowBytes 4 (end - 12) in
-    let q : two ≡ sets out 0 (head ++ size) = t ∙ (ap (λ (x : List ℕ). sets x 8 size) f ∙ sets-then out 0 8 head size refl) in
-    let z : length two ≡ length out = ap length q ∙ length-sets out 0 (head ++ size) in
-    let p = lent-sets two ys 12 (end - 12) (omega (arith, z, r .0)) (sym n) in
-    let u = p ∙ (ap (λ (x : List ℕ). sets x 12 ys) q ∙ sets-then out 0 12 (head ++ size) ys refl) in
-    let v = sets-then out 0 end ((head ++ size) ++ ys) (lowBytes 4 0) (omega (arith, n, r .0)) in
-    let b = ap (λ (m : ℕ). ((head ++ lowBytes 4 m) ++ ys) ++ lowBytes 4 0) n ∙ sym (one-chunk ys (omega (arith, r .0))) in
-    filled (inForm true a) out new (formed true ys) h (rw (← e)) (s ∙ (ap (λ (x : List ℕ). sets x end (lowBytes 4 0)) u ∙ (v ∙ ap (sets out 0) b)))
 
 -- ---- behind a head
 
