@@ -1,4 +1,4 @@
--- No two outcomes satisfy the contract of a public call of this crate: `..Told` has an inverse, and the room is a function of the input.
+-- No two outcomes satisfy the contract of `join_plp`: `joinedTold` has an inverse, and the room is a function of the input.
 -- Assumes nothing.
 use mathlib.Core.Path.{_≡_, refl, ap}
 use mathlib.Core.Bool.{Bool}
@@ -10,25 +10,9 @@ use Rattle.format.specs.Answer.{Read, took, stops, mapRead}
 use Rattle.format.specs.Plp as P
 use Rattle.format.proofs.Decided.{Undoes, decided, one-room}
 use Rattle.wire.proofs.Decided.{refusalBack, refusal-undoes}
-use Rattle.plp_join.specs.declared.Judged.{Judged}
-use Rattle.plp_join.specs.declared.Judged.the-variants as J
 use Rattle.plp_join.specs.declared.Joined.{Joined}
 use Rattle.plp_join.specs.declared.Joined.the-variants as C
-use Rattle.plp_join.specs.Told.{counted, judgedTold, joinedTold}
-
-abbrev judgedBack : Read (Option ℕ) → Judged
-judgedBack (took none n) = J.Null
-judgedBack (took (some c) n) = J.Content c n
-judgedBack (stops e) = J.Refused (refusalBack e)
-
-judged-undoes : Undoes judgedTold judgedBack
-judged-undoes J.Null = refl
-judged-undoes (J.Content c n) = refl
-judged-undoes (J.Refused e) = ap J.Refused (refusal-undoes e)
-
--- `plp_join::judge_plp`
-pub judge-plp-decided : (x y : Judged) (b : Read (Option ℕ)) → judgedTold x ≡ b → judgedTold y ≡ b → x ≡ y
-judge-plp-decided = decided judgedTold judgedBack judged-undoes
+use Rattle.plp_join.specs.Told.{counted, joinedTold}
 
 abbrev joinedBack : Read (Option ℕ) → Joined
 joinedBack (took none n) = C.Null (record { at = n })

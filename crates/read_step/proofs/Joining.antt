@@ -243,11 +243,3 @@ module _ (ys : List Column) (s : List ℕ) (from : ℕ) (out₀ : List ℕ) wher
   pub joining-ends : (f : Read Needs) → ((b : List ℕ) → f ≡ mapRead (needsOf (columnsTold b ys)) (answer b)) → (i : ℕ) (p : Place) (bs : List ℕ)
       → i ≡ turnsOf f n → ((b : List ℕ) → Joined b (answer b) i p bs) → (b : List ℕ) → bs ≡ roomAfterRead (copiedOutRow (columnsTold b ys)) (answer b) out₀
   joining-ends f is i p bs l z b = ends b (answer b) f i p bs (is b) l (z b)
-
-  -- the room keeps its length
-  keeps : (b : List ℕ) (a : Read (List Value)) (i : ℕ) (p : Place) (bs : List ℕ) → Joined b a i p bs → length bs ≡ length out₀
-  keeps b (took vs next) i p bs z = z .same
-  keeps b (stops e) i p bs z = ap length z
-
-  pub joining-keeps : (i : ℕ) (p : Place) (bs : List ℕ) → ((b : List ℕ) → Joined b (answer b) i p bs) → length bs ≡ length out₀
-  joining-keeps i p bs z = keeps [] (answer []) i p bs (z [])

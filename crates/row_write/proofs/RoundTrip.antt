@@ -13,16 +13,26 @@ use lib.ListN.{length, take, drop}
 use lib.Seq.{take-append-seam, drop-append-seam}
 use Rattle.format.specs.Answer.{Answer, gives, refuses, took, room, fitted, wrote, roomAfter}
 use Rattle.format.specs.Value as Values
-use Rattle.format.specs.Row.{readRow}
+use Rattle.format.specs.Row.{readRow, writeRow}
 use Rattle.format.specs.Normal.{normal}
 use Rattle.format.proofs.Writing.{RangedAll, GivenAll, row-agrees}
+use Rattle.wire.specs.declared.Wrote.{Wrote}
 use Rattle.wire.specs.declared.Wrote.the-variants as W
+use Rattle.wire.proofs.Decided.{Writes}
 use Rattle.wire.proofs.Writing.{count-is, not-refused}
 use Rattle.column_type.specs.declared.Column.{Column}
 use Rattle.value_kind.specs.declared.Value.{Value}
 use Rattle.columns.specs.Told.{columnsTold, valuesTold}
-use Rattle.row_write.proofs.Decided.{asked, WritesRow}
 use Rattle.row_write.proofs.Ranges.{Typed, all-ranged}
+
+-- what `row_write::write_row` promises of its answer and of the room
+module _ (buffer : List ℕ) (cols : List Column) (values : List Value) where
+  -- the row that is asked for
+  abbrev asked : Answer (List ℕ)
+  asked = writeRow (columnsTold buffer cols) (valuesTold buffer values)
+
+  abbrev pub WritesRow : List ℕ → Wrote → List ℕ → Type 0
+  WritesRow out r after = Writes asked out r after
 
 -- an answered count is that of the bytes that were asked for
 record Gave (a : Answer (List ℕ)) (size n : ℕ) : Type 0 where

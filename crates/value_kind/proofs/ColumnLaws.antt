@@ -1,15 +1,14 @@
 -- A value under a column: rule 6 first, then the column's family; a length that keeps the rule fits four bytes.
 -- Assumes nothing.
-use mathlib.Core.Path.{_≡_, refl, _∙_}
-use mathlib.Core.Bool.{Bool, true, false}
+use mathlib.Core.Path.{_≡_, _∙_}
+use mathlib.Core.Bool.{true, false}
 use mathlib.Core.List.{List}
 use mathlib.Core.Option.{Option}
 use Prim.Native.Nat.{ℕ, _<_, _≤_, _^_}
 use native.Mathlib.Omega.{arith}
 use lib.ListN.{length, drop}
 use borrow.Author.Tests.{ltb-true, eqb-true}
-use Rattle.lists.proofs.Split.{clash}
-use Rattle.format.specs.Answer.{gives, refuses, stops, rule, further, wrote, readAt}
+use Rattle.format.specs.Answer.{refuses, stops, rule, further, readAt}
 use Rattle.format.specs.Descriptor.{TypeId, fixedLen, byteLen, uShortLen, longLen, daten, xml, udt, ssVariant, Column, lengthFits, keepsRule}
 use Rattle.format.specs.Value.{Given, Family, familyOf, readFamily, readValue, writeFamily, writeValue}
 use Rattle.format.proofs.DescriptorForm.{both-true}
@@ -37,15 +36,6 @@ module _ (c : Column) where
   pub rule-broken : (g : Given) → keepsRule c ≡ false → writeValue c g ≡ refuses rule
   unfolding writeValue
   rule-broken g h = rw h
-
-  -- what can be written keeps the rule
-  pub written-kept : (g : Given) (n : ℕ) → gives n ≡ wrote (writeValue c g) → keepsRule c ≡ true
-  unfolding writeValue wrote
-  written-kept g n h = go (keepsRule c) refl
-    where
-      go : (b : Bool) → keepsRule c ≡ b → keepsRule c ≡ true
-      go true e = e
-      go false e = clash (cc (rw e at h))
 
 -- ---- read at a place inside the input
 

@@ -1,11 +1,10 @@
--- No two outcomes satisfy the contract of a public call of this crate. Of `read_value`: the kind, the places and the next place have an inverse, a scalar is
--- the canonical one that is told, and the room is a function of the input. A part that is handed back is a function of the input.
+-- No two outcomes satisfy the contract of `read_value`: the kind, the places and the next place have an inverse, a scalar is the canonical one that is told,
+-- and the room is a function of the input.
 -- Assumes nothing.
 use mathlib.Core.Path.{_≡_, refl, sym, ap, _∙_}
 use mathlib.Core.List.{List, []}
 use Prim.Native.Nat.{ℕ}
 use Rattle.lists.proofs.Split.{clash}
-use Rattle.format.specs.Found as F
 use Rattle.format.proofs.Decided.{decided, one-room}
 use Rattle.wire.specs.declared.Cursor.{Cursor}
 use Rattle.wire.specs.Told.{refusalTold}
@@ -17,7 +16,7 @@ use Rattle.value_found.specs.declared.ValueRead.{ValueRead}
 use Rattle.value_found.specs.declared.ValueRead.the-variants as R
 use Rattle.value_found.specs.Told.{foundTold, valueReadTold, CanonicalRead}
 use Rattle.value_found.proofs.Decided.{found-one}
-use Rattle.value_read.specs.Told.{foundOut, roomOut, shortContent}
+use Rattle.value_read.specs.Told.{foundOut, roomOut}
 
 abbrev cursorAt : ℕ → Cursor
 cursorAt n = record { at = n }
@@ -42,14 +41,3 @@ pub record ReadsValue (c : Column) (s : List ℕ) (at : ℕ) (out : List ℕ) (r
 module _ (c : Column) (s : List ℕ) (at : ℕ) (out : List ℕ) (x y : ValueRead) (a b : List ℕ) where
   pub read-value-decided : ReadsValue c s at out x a → ReadsValue c s at out y b → (x ≡ y) × (a ≡ b)
   read-value-decided p q = (read-one x y (p .canonical) (q .canonical) (p .told [] ∙ sym (q .told [])), one-room a b _ (p .room []) (q .room []))
-
--- `value_read::handed_back`
-pub handed-back-decided : (s : List ℕ) (start count : ℕ) (x y : List ℕ) → x ≡ F.handedBack s start count → y ≡ F.handedBack s start count → x ≡ y
-handed-back-decided s start count x y p q = one-room x y _ p q
-
--- `value_read::short_content`: what it promises, and that this is one part
-pub record GivesShort (c : Column) (s : List ℕ) (at : ℕ) (r : List ℕ) : Type 0 where
-  pub given : (b : List ℕ) → r ≡ shortContent (columnTold b c) s at
-
-pub short-content-decided : (c : Column) (s : List ℕ) (at : ℕ) (x y : List ℕ) → GivesShort c s at x → GivesShort c s at y → x ≡ y
-short-content-decided c s at x y p q = one-room x y _ (p .given []) (q .given [])
