@@ -6,7 +6,7 @@ use mathlib.Core.Option.{none, some}
 use Prim.Native.Nat.{ℕ, zero-le}
 use lib.ListN.{length, getD}
 use borrow.Author.Tests.{le-ltb}
-use Rattle.format.specs.Answer.{Refusal, Answer, gives, refuses, Read, took, stops, mapRead, wrote, inside, part}
+use Rattle.format.specs.Answer.{Refusal, Answer, gives, refuses, Read, took, stops, mapRead, inside, part}
 use Rattle.format.specs.Descriptor as D
 use Rattle.format.specs.Value.{writeValue, writeUntyped}
 use Rattle.format.specs.Found.{Found}
@@ -54,14 +54,6 @@ module _ (value buffer : List ℕ) where
 
   pub untyped-not : (e : Refusal) → some e ≡ noValue value → refuses e ≡ untypedGiven value buffer
   untyped-not e n = rw (← n)
-
--- a size, and a refusal before it
-pub size-told : (r : Counted) (told : Answer ℕ) (a b : Answer (List ℕ)) → r ≡ counted told → told ≡ wrote a → a ≡ b → r ≡ counted (wrote b)
-size-told r told a b c t e = c ∙ ap counted (t ∙ ap wrote e)
-
-pub size-refused : (r : Counted) (e : Refusal) (a : Answer (List ℕ)) → r ≡ counted (refuses e) → refuses e ≡ a → r ≡ counted (wrote a)
-unfolding wrote
-size-refused r e a c h = c ∙ ap (λ (x : Answer (List ℕ)). counted (wrote x)) h
 
 -- ---- read
 

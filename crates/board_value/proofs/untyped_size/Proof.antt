@@ -4,7 +4,8 @@ use mathlib.Core.Option.{none}
 use denote.Ref.{now}
 use Rattle.packed_value.specs.Numbers.{noValue}
 use Rattle.packed_value.specs.Made.{judgedTold}
-use Rattle.board_value.proofs.Laws.{untyped-is, untyped-not, size-told, size-refused}
+use Rattle.board_answer.proofs.Laws.{size-told, size-refused}
+use Rattle.board_value.proofs.Laws.{untyped-is, untyped-not}
 use borrow.Author.Needs.{needs}
 use Rattle.board_value.proofs.untyped_size.Statement.{statement}
 use Rattle.board_value.proofs.untyped_size.Tie as tie
