@@ -166,10 +166,12 @@ class Trials:
         page.write_text(page.read_text() + '\nMeasured again.\n')
         status, first, _ = self.open(text)
         self.say('green: only docs/GATE.md, which is made from the run, is younger', status == 0 and first.startswith('The gate is green'), (status, first))
+        page.write_text(page.read_text() + '\n`demands/proofs/Demand3.took-bytes`\n')
+        self.is_red('a name without a source text, a field of a record', text, 'No source text was found for the name demands/proofs/Demand3.took-bytes')
         source = self.folder / 'crates/format/specs/Header.antt'
         source.write_text(source.read_text().replace('unfoldable pub readHeader', 'unfoldable pub readTheHeader'))
         self.is_red('a source that is not the commit\'s', text, '1 file here differs from it: crates/format/specs/Header.antt')
-        self.is_red('a name without a source text', green_log(self.folder, committed(self.folder)), 'No source text was found for the name Header.readHeader')
+        self.is_red('a name of nothing', green_log(self.folder, committed(self.folder)), 'there is no definition Header.readHeader')
 
 
 def picture(path):

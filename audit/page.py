@@ -52,6 +52,7 @@ class Page:
         self.tags = collections.Counter(json.loads(line)['tag'] for path in sorted((ROOT / 'cases').glob('*.jsonl')) for line in path.read_text().splitlines())
         self.edits = {(path.parent.parent.name, path.stem): path for path in sorted(ROOT.glob('crates/*/must-fail/*.edit'))}
         self.known = self.all_names()
+        self.linked = set(self.known) | {'%s!%s' % edit for edit in self.edits}
         self.told = self.rust_rows()
 
     # ---- names
@@ -59,17 +60,12 @@ class Page:
     def all_names(self):
         """Each name of the pages that has a text, with it. A name without one is a fault."""
         found = {}
-        for page in names.pages(ROOT):
-            for _, word in names.words(page.read_text()):
-                if word is None or word in found:
-                    continue
-                try:
-                    shown = self.texts.of(word)
-                except (text.Missing, StopIteration) as fault:
-                    self.faults.append('No source text was found for the name %s of %s: %s.' % (word, page.relative_to(ROOT), fault or 'it is not where its path says'))
-                    continue
-                if shown:
-                    found[word] = shown
+        for page, word, shown in self.texts.on_pages():
+            if isinstance(shown, text.Missing):
+                self.faults.append('No source text was found for the name %s of %s: %s.' % (word, page, shown))
+            else:
+                found[word] = shown
+        self.faults += ['%s.' % fault for fault in names.faults(ROOT)]
         return found
 
     def rust_rows(self):
@@ -110,7 +106,7 @@ class Page:
             return 'the log says nothing of it', False
         return said, said.startswith('refused, as it must be')
 
-    def edit_fold(self, edit, place=''):
+    def edit_fold(self, edit):
         said, right = self.edit_said(edit)
         summary = '<code>%s!%s</code> <span class="%s">%s</span>' % (*edit, 'right' if right else 'wrong', html.escape(said))
         path = self.edits.get(edit)
@@ -122,9 +118,9 @@ class Page:
     def cell(self, content):
         """A cell: its words where it has some beside names, then each name with its text, the cases' numbers and the edits."""
         words = quoted(content)
-        out, shown = [], False
+        out = []
         if re.sub(r'`[^`]+`|[,;\s]', '', content):
-            out.append('<p>%s</p>' % inline(content, self.known))
+            out.append('<p>%s</p>' % inline(content, self.linked))
         for word in dict.fromkeys(words):
             kind, found = self.texts.names.shape(word)
             if word in self.known:
@@ -136,7 +132,7 @@ class Page:
                 if not self.tags[found[2]]:
                     self.faults.append('There is no case with the tag %s.' % found[2])
             elif not out:
-                out.append('<p>%s</p>' % inline(content, self.known))
+                out.append('<p>%s</p>' % inline(content, self.linked))
         return ''.join(out)
 
     def rust_list(self, entries):
@@ -168,7 +164,7 @@ class Page:
 
     def stops(self):
         return '<section id="stops"><h2>Every place where the Rust stops, and what happens here</h2>%s</section>' % markdown.page(
-            read('docs/STOPS.md'), self.known, lambda row: 'stop-' + row[0] if re.fullmatch(r'\d+\w?', row[0]) else anchor('stop ' + row[0]))
+            read('docs/STOPS.md'), self.linked, lambda row: 'stop-' + row[0] if re.fullmatch(r'\d+\w?', row[0]) else anchor('stop ' + row[0]))
 
     def demands(self, rows):
         """The three demands, word for word, each with its rows of docs/TRACE.md."""
@@ -193,7 +189,7 @@ class Page:
                 parts = ['<div class="part"><h4>%s</h4>%s</div>' % (html.escape(title), self.cell(cell)) for title, cell in zip(titles[1:], row[1:])]
                 out.append('<article class="row" id="%s"><h3>%s</h3><div class="parts">%s</div></article>' % (anchor('call ' + quoted(row[0])[0]), inline(row[0]), ''.join(parts)))
         front = read('docs/PUBLIC.md').partition('\n| ')[0]
-        return '<section id="public"><h2>The public calls</h2>%s%s</section>' % (markdown.page(front, self.known), ''.join(out)), len(out)
+        return '<section id="public"><h2>The public calls</h2>%s%s</section>' % (markdown.page(front, self.linked), ''.join(out)), len(out)
 
     def gate(self):
         crates, edits, programs = gate.listed(ROOT)
@@ -254,11 +250,11 @@ class Page:
         body = [
             self.stops(),
             '<section id="differences"><h2>Where this codec and the Rust differ</h2>%s</section>' % markdown.page(
-                read('docs/DIFFERENCES.md'), self.known, lambda row: 'd-' + row[0]),
+                read('docs/DIFFERENCES.md'), self.linked, lambda row: 'd-' + row[0]),
             self.demands(sections.get('The demands', [])),
             '<div id="sentences">%s</div>' % chapters,
             public,
-            '<section id="trusted"><h2>What is trusted</h2>%s</section>' % markdown.page(read('docs/TRUSTED.md'), self.known),
+            '<section id="trusted"><h2>What is trusted</h2>%s</section>' % markdown.page(read('docs/TRUSTED.md'), self.linked),
             self.gate(),
             '<section id="names"><h2>Every name, with its text</h2>%s</section>' % ''.join('<div class="row" id="%s">%s</div>' % (anchor(word), self.name_fold(word)) for word in sorted(self.known)),
         ]

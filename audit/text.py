@@ -2,7 +2,7 @@
 
 A definition is shown whole. Of a theorem its statement is shown and not its proof, with the heads of the modules that it stands in, whose
 parameters it is about; of a call its head with the contract; of a type its declaration; of a module its head and its calls.
-`Texts(root).of(word)` is (kind, place, text); a name without a text raises Missing.
+`Texts().of(word)` is (kind, place, text); a name without a text raises Missing.
 """
 import pathlib
 import re
@@ -148,3 +148,24 @@ class Texts:
         if read is None:
             raise Missing('%s is a %s' % (word, item.kind))
         return read(item.path)
+
+    def on_pages(self):
+        """(page, name, its text or what is missing) of each name on the pages that should have a text."""
+        seen = set()
+        for page in names.pages(ROOT):
+            for _, word in names.words(page.read_text()):
+                if word is None or word in seen or self.names.fault(word):
+                    continue
+                seen.add(word)
+                try:
+                    shown = self.of(word)
+                except (Missing, StopIteration) as fault:
+                    shown = Missing(str(fault) or 'it does not stand where its path says')
+                if shown:
+                    yield page.relative_to(ROOT), word, shown
+
+
+def faults(root):
+    for page, word, shown in Texts().on_pages():
+        if isinstance(shown, Missing):
+            yield '%s: no source text is found for %s: %s' % (page, word, shown)
