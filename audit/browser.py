@@ -118,7 +118,8 @@ class Trials:
         self.say('a green log gives a green first line', status == 0 and first.startswith('The gate is green: ') and colour == GREEN, (status, first, colour))
         errors = [entry['message'] for entry in self.driver.get_log('browser') if entry['level'] == 'SEVERE']
         self.say('it opens without an error', not errors, errors)
-        asked = self.driver.execute_script("return performance.getEntriesByType('resource').map(entry => entry.name)")
+        asked = self.driver.execute_script("""return [...document.querySelectorAll('[src], [srcset], link, object, embed, iframe')].map(part => part.outerHTML)
+            .concat([...document.querySelectorAll('style')].flatMap(style => style.textContent.match(/url\\(.*|@import.*/g) || []))""")
         self.say('it asks for no other file', not asked, asked)
         lost, links = self.driver.execute_script("""const links = [...document.querySelectorAll('a[href]')].map(a => a.getAttribute('href'));
             return [[...new Set(links)].filter(href => href[0] !== '#' || !document.getElementById(decodeURIComponent(href.slice(1)))), links.length]""")
@@ -166,12 +167,16 @@ class Trials:
         page.write_text(page.read_text() + '\nMeasured again.\n')
         status, first, _ = self.open(text)
         self.say('green: only docs/GATE.md, which is made from the run, is younger', status == 0 and first.startswith('The gate is green'), (status, first))
-        page.write_text(page.read_text() + '\n`demands/proofs/Demand3.took-bytes`\n')
+        before = page.read_text()
+        page.write_text(before + '\n`demands/proofs/Demand3.took-bytes`\n')
         self.is_red('a name without a source text, a field of a record', text, 'No source text was found for the name demands/proofs/Demand3.took-bytes')
+        page.write_text(before)
         source = self.folder / 'crates/format/specs/Header.antt'
         source.write_text(source.read_text().replace('unfoldable pub readHeader', 'unfoldable pub readTheHeader'))
         self.is_red('a source that is not the commit\'s', text, '1 file here differs from it: crates/format/specs/Header.antt')
         self.is_red('a name of nothing', green_log(self.folder, committed(self.folder)), 'there is no definition Header.readHeader')
+        (self.folder / 'docs/STOPS.md').unlink()
+        self.is_red('a page that could not be made', text, 'was not made to its end')
 
 
 def picture(path):
