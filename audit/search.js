@@ -1,7 +1,8 @@
-// Shows the rows that have the word, opens the folds that have it, and says how many rows there are. Without a word all is as it was.
+// Shows the rows that have the word, opens the folds that have it (not where there are more than 400 rows), and says how many rows there are. Without a word all is as it was.
 const box = document.getElementById('search'), count = document.getElementById('count');
 const rows = [...document.querySelectorAll('main .row')].map(row => ({ row, text: row.textContent.toLowerCase() }));
-const holders = [...document.querySelectorAll('main section, main h2, main h3, main h4, main table, main [id^=demand]')].filter(part => !part.closest('.row'));
+const outside = query => [...document.querySelectorAll(query)].filter(part => !part.closest('.row'));
+const holders = outside('main section, main table, main [id^=demand]'), headings = outside('main h3, main h4');
 let opened = [];
 
 function search() {
@@ -13,8 +14,8 @@ function search() {
     row.hidden = !text.includes(word);
     found += !row.hidden;
   }
-  for (const part of holders)
-    part.hidden = word && !(/^H/.test(part.tagName) ? true : part.querySelector('.row:not([hidden])'));
+  headings.forEach(part => part.hidden = word !== '');
+  holders.forEach(part => part.hidden = word !== '' && !part.querySelector('.row:not([hidden])'));
   if (word && found <= 400)
     for (const { row } of rows)
       if (!row.hidden)
