@@ -6,6 +6,7 @@
 - The lists are whole: public calls, must-fail edits, ops of the cases (complete.py).
 - The replay program's stdin and stdout are what the cases make (cases/frames.py).
 - README.md shows what there is (shown.py).
+- Each sentence of docs/TRACE.md has evidence (traced.py), and each name on the pages a source text for the audit page (audit/text.py).
 
 .ci/sabotage.py tries that each of them can fail.
 """
@@ -16,8 +17,11 @@ import sys
 import complete
 import names
 import shown
+import traced
 
 ROOT = pathlib.Path(__file__).resolve().parent.parent
+sys.path.insert(0, str(ROOT / 'audit'))
+import text
 
 
 def crate_faults():
@@ -35,7 +39,7 @@ def frame_faults():
 
 def main():
     faults = [fault for check in (crate_faults, frame_faults) for fault in check()]
-    for check in (names.faults, complete.faults, shown.faults):
+    for check in (names.faults, complete.faults, shown.faults, traced.faults, text.faults):
         try:
             faults += check(ROOT)
         except ValueError as fault:

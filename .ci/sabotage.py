@@ -83,6 +83,12 @@ NAMES_AND_LISTS = [
     Sabotage('crates/example_limits/src/main.rt', 'fn main() {', 'fn main() {\n    words::text(b"");', 'crates/example_limits/src/main.rt is not what is shown'),
     Sabotage('crates/capture/data/cut.tds', '', '\0', 'cut.tds'),
     Sabotage('crates.txt', 'column_rule: column_has column_type wire format lists\n', '', 'crates/column_rule is not listed in crates.txt'),
+    # docs/TRACE.md: evidence
+    Sabotage('docs/TRACE.md', '| `prelogin::write_prelogin` | `cases:prelogin` |', '| | `cases:prelogin` |', 'docs/TRACE.md: Prelogin message, writing has no evidence'),
+    Sabotage('docs/TRACE.md', '| `text::to_utf16`, `text::to_utf8` | `cases:utf8-pairs`', '| it is proved | `cases:utf8-pairs`', "or text out meets an unpaired surrogate has no evidence"),
+    Sabotage('docs/TRACE.md', '| `Header.readHeader` | `header/proofs/Laws.header-short` |', '| `header/proofs/Laws.header-short` |', 'the row of Fewer than 8 bytes: 1, before anything else has 3 cells for 4 titles'),
+    Sabotage('docs/TRACE.md', '| marked (02): still to come, with that request |', '| `wire::Refusal` |', 'constant table" has evidence, and is listed as having none'),
+    Sabotage('docs/TRACE.md', '`wire::Refusal`, by', '`demands/proofs/Demand3.took-bytes`, by', 'docs/TRACE.md: no source text is found for demands/proofs/Demand3.took-bytes'),
     # ops, and the cases that were handed to the project
     Sabotage('cases/ops.txt', 'type_read\n', '', 'the op type_read is neither in cases/ops.txt nor in cases/to-come.txt'),
     Sabotage('cases/to-come.txt', '', 'type_write\n', 'the op type_write is in cases/ops.txt and in cases/to-come.txt'),

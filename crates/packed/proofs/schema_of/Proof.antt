@@ -1,10 +1,8 @@
--- `packed::inner::schema_of` meets its contract. Assumes nothing.
+-- `packed::schema_of` meets its contract. Assumes nothing.
 use Prim.Native.Nat.{_/_}
 use borrow.Author.Tests.{eq-eqb, ne-eqb}
-use Rattle.packed.proofs.inner.schema_of.Statement.{statement}
-use Rattle.packed.proofs.inner.schema_of.Tie as tie
-use Rattle.packed.proofs.inner.schema_of.Reads as reads
-use Rattle.packed.proofs.inner.schema_of.Lts as lts
+use Rattle.packed.proofs.schema_of.Statement.{statement}
+use Rattle.packed.proofs.schema_of.Tie as tie
 
 returns : tie.Need-returns
 returns c = rw (eq-eqb (c .before .args .flags / 2) 1 (c .if1 .taken))

@@ -1,12 +1,7 @@
--- `packed::inner::fields_of` meets its contract: each field stands at its place. Assumes nothing.
+-- `packed::fields_of` meets its contract: each field stands at its place. Assumes nothing.
 use borrow.Author.Needs.{needs}
-use Rattle.packed.proofs.inner.fields_of.Statement.{statement}
-use Rattle.packed.proofs.inner.fields_of.Tie as tie
-use Rattle.packed.proofs.inner.fields_of.Reads as reads
-use Rattle.packed.proofs.inner.fields_of.Lts as lts
-use Rattle.packed.proofs.inner.collation_of.Reads as collation-of-reads
-use Rattle.packed.proofs.inner.schema_of.Reads as schema-of-reads
-use Rattle.wire.proofs.inner.low_at.Reads as low-at-reads
+use Rattle.packed.proofs.fields_of.Statement.{statement}
+use Rattle.packed.proofs.fields_of.Tie as tie
 
 low-at-requires : tie.Need-low-at-requires
 low-at-requires c κs = search needs

@@ -1,14 +1,10 @@
--- `packed::inner::keeps_places` meets its contract: the tests of the definition, one after another. Assumes nothing.
+-- `packed::keeps_places` meets its contract: the tests of the definition, one after another. Assumes nothing.
 use mathlib.Core.Path.{sym, _∙_}
-use Rattle.packed.proofs.Places.{other-flag, not-zero, others}
+use Rattle.packed.proofs.Places.{other-flag, not-zero}
 use Rattle.packed.proofs.Places.{used-here, used-other}
 use borrow.Author.Needs.{needs}
-use Rattle.packed.proofs.inner.keeps_places.Statement.{statement}
-use Rattle.packed.proofs.inner.keeps_places.Tie as tie
-use Rattle.packed.proofs.inner.keeps_places.Reads as reads
-use Rattle.packed.proofs.inner.keeps_places.Lts as lts
-use Rattle.packed.proofs.inner.unused_zero.Reads as unused-zero-reads
-use Rattle.wire.proofs.inner.low_at.Reads as low-at-reads
+use Rattle.packed.proofs.keeps_places.Statement.{statement}
+use Rattle.packed.proofs.keeps_places.Tie as tie
 
 shared-slice-read-flags : tie.Need-shared-slice-read-flags
 shared-slice-read-flags c = search needs

@@ -1,13 +1,10 @@
--- `packed::inner::collation_of` meets its contract. Assumes nothing.
+-- `packed::collation_of` meets its contract. Assumes nothing.
 use borrow.Author.Tests.{eq-eqb, ne-eqb}
 use Prim.Native.Nat.{_%_}
 use Rattle.packed.specs.Packed.{flagsAt}
 use borrow.Author.Needs.{needs}
-use Rattle.packed.proofs.inner.collation_of.Statement.{statement}
-use Rattle.packed.proofs.inner.collation_of.Tie as tie
-use Rattle.packed.proofs.inner.collation_of.Reads as reads
-use Rattle.packed.proofs.inner.collation_of.Lts as lts
-use Rattle.wire.proofs.inner.low_at.Reads as low-at-reads
+use Rattle.packed.proofs.collation_of.Statement.{statement}
+use Rattle.packed.proofs.collation_of.Tie as tie
 
 shared-slice-read-if1 : tie.Need-shared-slice-read-if1
 shared-slice-read-if1 c = search needs
