@@ -1,9 +1,8 @@
 // Values as three numbers, under a column as a record of 16 bytes: sized, written, read.
 ghost use mathlib.Core.Path.{_≡_};
 ghost use lib.ListN.{length};
-ghost use Rattle.format.specs.Answer.{mapRead, fitted, wrote, roomAfter};
+ghost use Rattle.format.specs.Answer.{fitted, wrote, roomAfter};
 ghost use Rattle.packed.specs.Made.{columnMade, noName};
-ghost use Rattle.packed_slot.specs.Slots.{slotOf};
 ghost use Rattle.board_answer.specs.Told.{counted, place, after};
 ghost use Rattle.board_value.specs.Plain.{valueGiven, valueAt, roomAt};
 use board_answer::Counted;
@@ -64,7 +63,7 @@ pub fn value_read(
 ) -> Counted
     ensures answer { λ r. ⌜ r ≡ counted (place (valueAt (now (column .entry)) (now (row .entry)) at (now (room .entry)))) ⌝ }
     ensures room { λ _. ⌜ now (room .exit) ≡ roomAt (now (column .entry)) (now (row .entry)) at (now (room .entry)) ⌝ }
-    ensures value { λ _. ⌜ now (value .exit) ≡ after (mapRead slotOf (valueAt (now (column .entry)) (now (row .entry)) at (now (room .entry)))) (now (value .entry)) ⌝ }
+    ensures value { λ _. ⌜ now (value .exit) ≡ after (valueAt (now (column .entry)) (now (row .entry)) at (now (room .entry))) (now (value .entry)) ⌝ }
 {
     let c = column_of(column);
     let read = value_read::read_value(c, row, Cursor { at }, room);

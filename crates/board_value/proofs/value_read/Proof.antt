@@ -3,7 +3,8 @@ use mathlib.Core.Path.{refl, ap, subst}
 use mathlib.Core.List.{[]}
 use denote.Ref.{now}
 use Rattle.value_found.specs.Told.{valueReadTold, CanonicalRead}
-use Rattle.board_value.proofs.Laws.{found-is, room-is, finds-took, finds-stops}
+use Rattle.board_answer.proofs.Laws.{reads-took, reads-stops}
+use Rattle.board_value.proofs.Laws.{value-is, room-is}
 use borrow.Author.Needs.{needs}
 use Rattle.board_value.proofs.value_read.Statement.{statement}
 use Rattle.board_value.proofs.value_read.Tie as tie
@@ -44,9 +45,9 @@ returns c =
     let a = start .args in
     let made = after-column-of .column-of .ensures in
     let told = after-read-value .read-value .ensures in
-    let e = ap valueReadTold (after-read .read .given .1) in
-    finds-took _ _ _ _ _ (now (a .value)) _ _ (c .at .ensures) (room-is (now (a .column)) (now (a .row)) (a .at) (now (a .room)) _ made _ (told .1 .1 [])) (c .before .before .slot-of .ensures)
-    (found-is (now (a .column)) (now (a .row)) (a .at) (now (a .room)) _ made _ _ e (told .0 []))
+    let e = value-is (now (a .column)) (now (a .row)) (a .at) (now (a .room)) _ made _ _ (ap valueReadTold (after-read .read .given .1)) (told .0 []) in
+    let r = reads-took _ _ _ (now (a .value)) _ _ (c .at .ensures) (c .before .before .slot-of .ensures) e in
+    (r .0, (room-is (now (a .column)) (now (a .row)) (a .at) (now (a .room)) _ made _ (told .1 .1 []), r .1))
 
 same-length-2 : tie.Need-same-length-2
 same-length-2 c = search needs
@@ -60,9 +61,9 @@ returns-2 c =
     let a = start .args in
     let made = after-column-of .column-of .ensures in
     let told = after-read-value .read-value .ensures in
-    let e = ap valueReadTold (after-read2 .read2 .given .1) in
-    finds-stops _ _ _ _ _ (now (a .value)) _ (c .refused .ensures) (room-is (now (a .column)) (now (a .row)) (a .at) (now (a .room)) _ made _ (told .1 .1 [])) refl
-    (found-is (now (a .column)) (now (a .row)) (a .at) (now (a .room)) _ made _ _ e (told .0 []))
+    let e = value-is (now (a .column)) (now (a .row)) (a .at) (now (a .room)) _ made _ _ (ap valueReadTold (after-read2 .read2 .given .1)) (told .0 []) in
+    let r = reads-stops _ _ _ (now (a .value)) _ (c .refused .ensures) refl e in
+    (r .0, (room-is (now (a .column)) (now (a .row)) (a .at) (now (a .room)) _ made _ (told .1 .1 []), r .1))
 
 pub value-read-spec : {M : Type 1} → statement M
 value-read-spec =
