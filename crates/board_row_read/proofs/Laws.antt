@@ -22,7 +22,7 @@ pub needs-are : (cs : List Column) (x : Read (List Value)) → mapRead numbers (
 needs-are cs (took vs next) = refl
 needs-are cs (stops e) = refl
 
--- ---- a row: a count of what it needs is one of where it ends
+-- ---- a row: it ends where what it needs was told to end
 
 pub row-ends : (r : Counted) (cs : List Column) (told known : Read Needs) (read : Read (List Value)) → told ≡ known → told ≡ mapRead (needsOf cs) read →
     r ≡ counted (place known) → r ≡ counted (place read)
