@@ -6,9 +6,13 @@
   arrays and of its answer.
 - Numbers: every enumerator of the header is a constant of the Rust; the refusals are those of crates/board_answer, the type
   bytes those of crates/column_byte.
+- Every `unsafe` of the safe crate says why it is sound.
+- docs/BOARD.md names every export, and what stands at the lines of the Rust's files that it names.
 """
 import re
 
+PAGE = 'docs/BOARD.md'
+SAFE = 'bindings/rust/morelquilt/src'
 HEADER = 'bindings/c/morelquilt.h'
 RUST = 'bindings/rust/morelquilt-sys/src/lib.rs'
 SOURCE = 'crates/board/src'
@@ -148,6 +152,29 @@ def number_faults(root, text, rust_text):
         yield '%s: %s is no type byte of the source' % (HEADER, name)
 
 
+def unsafe_faults(root):
+    for path in sorted((root / SAFE).glob('*.rs')):
+        lines = path.read_text().splitlines()
+        for number, line in enumerate(lines):
+            if not re.search(r'\bunsafe\b', line) or line.startswith('#!'):
+                continue
+            above = number
+            while above and lines[above - 1].strip().startswith('//'):
+                above -= 1
+            if not any('SAFETY: ' in comment for comment in lines[above:number]):
+                yield '%s:%d: an unsafe block that does not say why it is sound' % (path.relative_to(root), number + 1)
+
+
+def page_faults(root, proved):
+    text = (root / PAGE).read_text()
+    for name in sorted(set(proved) - set(re.findall(r'`(\w+)`', text))):
+        yield '%s: %s is not named' % (PAGE, name)
+    for file, line, word in re.findall(r'(?m)^\| `([\w/]+\.rs):(\d+)` \| `(\w+)` \|', text):
+        lines = (root / 'oracle/tiberius/src' / file).read_text().splitlines()
+        if int(line) > len(lines) or not re.search(r'\b%s\b' % word, lines[int(line) - 1]):
+            yield '%s: %s does not stand at %s:%s' % (PAGE, word, file, line)
+
+
 def faults(root):
     proved, proved_structs = source(root)
     text, rust_text = (root / HEADER).read_text(), (root / RUST).read_text()
@@ -166,3 +193,5 @@ def faults(root):
         if c_structs[name] != declared[name]:
             yield 'the struct %s is %s in C, and %s in Rust' % (name, c_structs[name], declared[name])
     yield from number_faults(root, text, rust_text)
+    yield from unsafe_faults(root)
+    yield from page_faults(root, proved)

@@ -6,6 +6,7 @@
 - The lists are whole: public calls, must-fail edits, ops of the cases (complete.py).
 - The replay program's stdin and stdout are what the cases make (cases/frames.py).
 - README.md shows what there is (shown.py).
+- The ways in from C and Rust are the proved one (bindings.py).
 
 .ci/sabotage.py tries that each of them can fail.
 """
@@ -13,6 +14,7 @@ import pathlib
 import subprocess
 import sys
 
+import bindings
 import complete
 import names
 import shown
@@ -35,7 +37,7 @@ def frame_faults():
 
 def main():
     faults = [fault for check in (crate_faults, frame_faults) for fault in check()]
-    for check in (names.faults, complete.faults, shown.faults):
+    for check in (names.faults, complete.faults, shown.faults, bindings.faults):
         try:
             faults += check(ROOT)
         except ValueError as fault:
