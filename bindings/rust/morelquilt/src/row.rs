@@ -174,8 +174,8 @@ pub fn row_needs(table: &[Column], row: &[u8], at: usize) -> Read<Needs> {
     let mut needs = sys::Needs::default();
     // SAFETY: two slices' own pointers and lengths, columns as the bytes that they are made of, without padding; `needs` is
     // a local that nothing else sees.
-    let next =
-        counted(unsafe { sys::morelquilt_row_needs(table.as_ptr().cast(), size_of_val(table), row.as_ptr(), row.len(), at, &mut needs) })?;
+    let answer = unsafe { sys::morelquilt_row_needs(table.as_ptr().cast(), size_of_val(table), row.as_ptr(), row.len(), at, &mut needs) };
+    let next = counted(answer)?;
     Ok((Needs { room: place(needs.room), normal: place(needs.normal) }, next))
 }
 
