@@ -180,64 +180,66 @@ enum morelquilt_type {
 
 /* ---- Packets */
 
-/* The header at a place: the next place. At most 1 and 2. */
+/* The header at a place: the next place. Refused with 1, then 2. */
 morelquilt_counted morelquilt_header_read(const uint8_t *bytes, size_t bytes_length, size_t at, morelquilt_header *fields);
 
-/* A header: 8 bytes written. An unknown type or status is 2, before anything else; then 4. The length is not judged. */
+/* A header: 8 bytes written. Refused with 2 for an unknown type or status, then 4. The length is not judged. */
 morelquilt_counted morelquilt_header_write(uint8_t type, uint8_t status, uint16_t length, uint16_t spid, uint8_t id, uint8_t window,
                                            uint8_t *out, size_t out_length);
 
-/* A prelogin message: 33 bytes written, or 39 where fed_auth is 1. An encryption above 3, a mars or fed_auth above 1 is 2,
- * before anything else; then 4. */
+/* A prelogin message: 33 bytes written, or 39 where fed_auth is 1. Refused with 2 for an encryption above 3, a mars or a fed_auth
+ * above 1, then 4. */
 morelquilt_counted morelquilt_prelogin_write(uint32_t version, uint16_t sub_build, uint8_t encryption, uint32_t thread_id, uint8_t mars,
                                              uint8_t fed_auth, uint8_t *out, size_t out_length);
 
 /* ---- Numbers and GUIDs */
 
-/* The number of `width` bytes at a place, low byte first, or high byte first where `high` is 1: the next place. A width
- * other than 1, 2, 4 and 8, or a high above 1, is 2, before anything else; then 1. */
+/* The number of `width` bytes at a place, low byte first, or high byte first where `high` is 1: the next place. Refused with 2
+ * for a width other than 1, 2, 4 and 8 or a high above 1, then 1. */
 morelquilt_counted morelquilt_number_read(const uint8_t *bytes, size_t bytes_length, size_t at, uint8_t width, uint8_t high, uint64_t *to);
 
-/* The GUID at a place, its sixteen bytes in text order: the next place. At most 1. */
+/* The GUID at a place, its sixteen bytes in text order: the next place. Refused with 1. */
 morelquilt_counted morelquilt_guid_read(const uint8_t *bytes, size_t bytes_length, size_t at, uint8_t text[16]);
 
-/* Sixteen bytes in text order as a GUID: 16 bytes written. At most 4. */
+/* Sixteen bytes in text order as a GUID: 16 bytes written. Refused with 4. */
 morelquilt_counted morelquilt_guid_write(const uint8_t text[16], uint8_t *out, size_t out_length);
 
 /* ---- A column's descriptor (TYPE_INFO) */
 
 /* The descriptor at a place: the next place. `index` goes into the column where it has a schema; `names` are then spans of
- * `bytes`, and six zeros where it has none. At most 1, 2 and 7. */
+ * `bytes`, and six zeros where it has none. Refused with 1, 2 or 7, as the bytes come. */
 morelquilt_counted morelquilt_column_read(const uint8_t *bytes, size_t bytes_length, size_t at, uint16_t index, morelquilt_column *column,
                                           morelquilt_names *names);
 
-/* How many bytes a descriptor has. The names are spans of the buffer, and count only where the column has a schema. */
+/* How many bytes a descriptor has. The names are spans of the buffer, and are looked at only where the column has a schema.
+ * Refused with 6, then 7. */
 morelquilt_counted morelquilt_column_size(const morelquilt_column *column, const morelquilt_names *names, const uint8_t *buffer,
                                           size_t buffer_length);
 
-/* A descriptor: bytes written. In the order 6, 7, 4. */
+/* A descriptor: bytes written. Refused with 6, 7, 4, in this order. */
 morelquilt_counted morelquilt_column_write(const morelquilt_column *column, const morelquilt_names *names, const uint8_t *buffer,
                                            size_t buffer_length, uint8_t *out, size_t out_length);
 
 /* ---- One value. Its content, where it has any, is a span of the buffer. */
 
-/* How many bytes a value has under a column. */
+/* How many bytes a value has under a column. Refused as value_write is, but with 4. */
 morelquilt_counted morelquilt_value_size(const morelquilt_column *column, const morelquilt_value *value, const uint8_t *buffer,
                                          size_t buffer_length);
 
-/* A value under a column: bytes written. Three numbers that are no value are 3; then in the order 6, 7, 3, 1, 9, 5, 4. */
+/* A value under a column: bytes written. Refused with 3 for three numbers that are no value, then 6, 7, 3, 1, 9, 5, 4, in this
+ * order. */
 morelquilt_counted morelquilt_value_write(const morelquilt_column *column, const morelquilt_value *value, const uint8_t *buffer,
                                           size_t buffer_length, uint8_t *out, size_t out_length);
 
 /* The value at a place of a row: the next place. Long content is joined at the front of the room; all other content stays in
- * the row, and needs no room. A place behind the row's end is 1; then 6, 7, what the bytes say, and 4 last. */
+ * the row, and needs no room. Refused with 1 for a place behind the row's end, then 6, 7, what the bytes say, and 4. */
 morelquilt_counted morelquilt_value_read(const morelquilt_column *column, const uint8_t *row, size_t row_length, size_t at, uint8_t *room,
                                          size_t room_length, morelquilt_value *value);
 
-/* How many bytes a value has with its own descriptor in front. */
+/* How many bytes a value has with its own descriptor in front. Refused as untyped_write is, but with 4. */
 morelquilt_counted morelquilt_untyped_size(const morelquilt_value *value, const uint8_t *buffer, size_t buffer_length);
 
-/* A value with its own descriptor in front: bytes written. Three numbers that are no value are 3; then 1, 9, 5, 4. */
+/* A value with its own descriptor in front: bytes written. Refused with 3 for three numbers that are no value, then 1, 9, 5, 4. */
 morelquilt_counted morelquilt_untyped_write(const morelquilt_value *value, const uint8_t *buffer, size_t buffer_length, uint8_t *out,
                                             size_t out_length);
 
@@ -262,26 +264,26 @@ morelquilt_counted morelquilt_row_normal(const uint8_t *table, size_t table_leng
 
 /* ---- Long (PLP) content, chunk by chunk: nothing is copied */
 
-/* The eight bytes at a place, and the walk behind them: the next place. `text` is 1 where the content is a string; above 1
- * it is 2, before anything else. Null has no chunks: its walk has ended at once. At most 1, 2 and 5. */
+/* The eight bytes at a place, and the walk behind them: the next place. `text` is 1 where the content is a string, else 0.
+ * Null has no chunks: its walk has ended at once. Refused with 2 for a text above 1, then 1 or 5. */
 morelquilt_counted morelquilt_walk_open(const uint8_t *bytes, size_t bytes_length, size_t at, uint8_t text, morelquilt_walk *walk);
 
-/* As many chunk heads as are allowed, or up to the last one: how many were taken. A flag of the walk (known, text, ended)
- * above 1 is 2, before anything else; then 1, 5 and 8 in the order of the bytes. */
+/* As many chunk heads as are allowed, or up to the last one: how many were taken. Refused with 2 for a flag of the walk (known,
+ * text, ended) above 1, then 1, 5 or 8, as the bytes come; the walk then stands where it stood. */
 morelquilt_counted morelquilt_walk_step(const uint8_t *bytes, size_t bytes_length, uint64_t allowed, morelquilt_walk *walk);
 
 /* ---- Text */
 
-/* How many bytes UTF-8 text has as UTF-16LE. At most 9. */
+/* How many bytes UTF-8 text has as UTF-16LE. Refused with 9. */
 morelquilt_counted morelquilt_utf16_size(const uint8_t *text, size_t text_length);
 
-/* UTF-8 as UTF-16LE: bytes written. In the order 9, 4. */
+/* UTF-8 as UTF-16LE: bytes written. Refused with 9, then 4. */
 morelquilt_counted morelquilt_to_utf16(const uint8_t *text, size_t text_length, uint8_t *out, size_t out_length);
 
-/* How many bytes UTF-16LE units have as UTF-8. In the order 8 (an odd count of bytes), 9. */
+/* How many bytes UTF-16LE units have as UTF-8. Refused with 8 for an odd count of bytes, then 9. */
 morelquilt_counted morelquilt_utf8_size(const uint8_t *units, size_t units_length);
 
-/* UTF-16LE as UTF-8: bytes written. In the order 8, 9, 4. */
+/* UTF-16LE as UTF-8: bytes written. Refused with 8, 9, 4, in this order. */
 morelquilt_counted morelquilt_to_utf8(const uint8_t *units, size_t units_length, uint8_t *out, size_t out_length);
 
 /* ---- The layout that the archive counts on */
@@ -310,30 +312,31 @@ MORELQUILT_ASSERT(value_is_three_numbers, sizeof(morelquilt_value) == 24);
 MORELQUILT_ASSERT(needs_are_two_numbers, sizeof(morelquilt_needs) == 16);
 MORELQUILT_ASSERT(walk_is_six_numbers, sizeof(morelquilt_walk) == 48);
 
-/* ---- Rows, counted in columns and values. A table has at most 1,024 columns: more is 6. */
+/* ---- Rows, counted in columns and values */
 
-/* How many bytes a row has. As many values as columns, else 6; their contents are spans of one buffer. */
+/* How many bytes a row has. Its values' contents are spans of one buffer. Refused as write_row is, but with 4. */
 static inline morelquilt_counted morelquilt_size_row(const morelquilt_column *table, size_t columns, const morelquilt_value *values, size_t count,
                                                      const uint8_t *buffer, size_t buffer_length) {
     return morelquilt_row_size((const uint8_t *)table, columns * sizeof *table, (const uint64_t *)values, count * 3, buffer, buffer_length);
 }
 
-/* A row: bytes written. Values that are none are 3 from the left; then 6 by the counts, the columns from the left, and 4 last. */
+/* A row: bytes written. Refused with 3 for a value that is none, then 6 for more than 1,024 columns or another count of values, then
+ * as its values are, from the left, and with 4 last. */
 static inline morelquilt_counted morelquilt_write_row(const morelquilt_column *table, size_t columns, const morelquilt_value *values, size_t count,
                                                       const uint8_t *buffer, size_t buffer_length, uint8_t *out, size_t out_length) {
     return morelquilt_row_write((const uint8_t *)table, columns * sizeof *table, (const uint64_t *)values, count * 3, buffer, buffer_length, out,
                                 out_length);
 }
 
-/* What the row at a place needs: the next place. A place behind the row's end is 1; then 6 by the count, and the columns from
- * the left. */
+/* What the row at a place needs: the next place. Refused with 1 for a place behind the row's end, then 6 for more than 1,024
+ * columns, then as its values are, from the left. */
 static inline morelquilt_counted morelquilt_judge_row(const morelquilt_column *table, size_t columns, const uint8_t *row, size_t row_length,
                                                       size_t at, morelquilt_needs *needs) {
     return morelquilt_row_needs((const uint8_t *)table, columns * sizeof *table, row, row_length, at, needs);
 }
 
 /* The values of the row at a place, one for each column at the front of `values`: the next place. Long content is joined in
- * the room, column behind column. As judge_row; then 4 where the room or the values are too few. */
+ * the room, column behind column. Refused as judge_row is, and with 4 where room or values are too few. */
 static inline morelquilt_counted morelquilt_read_row(const morelquilt_column *table, size_t columns, const uint8_t *row, size_t row_length,
                                                      size_t at, uint8_t *room, size_t room_length, morelquilt_value *values, size_t count) {
     return morelquilt_row_read((const uint8_t *)table, columns * sizeof *table, row, row_length, at, room, room_length, (uint64_t *)values,
@@ -341,7 +344,7 @@ static inline morelquilt_counted morelquilt_read_row(const morelquilt_column *ta
 }
 
 /* The normal form of the row at a place: bytes written, and in `next` the next place. Two rows hold the same exactly when
- * their normal forms are the same bytes. As judge_row; then 4. */
+ * their normal forms are the same bytes. Refused as judge_row is, and with 4 last. */
 static inline morelquilt_counted morelquilt_normal_row(const morelquilt_column *table, size_t columns, const uint8_t *row, size_t row_length,
                                                        size_t at, uint8_t *out, size_t out_length, uint64_t *next) {
     return morelquilt_row_normal((const uint8_t *)table, columns * sizeof *table, row, row_length, at, out, out_length, next);
@@ -435,7 +438,7 @@ static inline const uint8_t *morelquilt_content_of(const morelquilt_value *value
     }
 }
 
-/* A refusal's words, without their end. */
+/* A refusal in words. */
 static inline const char *morelquilt_words(uint64_t refusal) {
     switch (refusal) {
     case MORELQUILT_OK: return "not refused";
