@@ -1,6 +1,6 @@
 // What every call for C and Rust answers: a struct of two numbers.
 ghost use mathlib.Core.Path.{_≡_};
-ghost use Rattle.format.specs.Answer.{gives, refuses, number};
+ghost use Rattle.format.specs.Answer.{gives, refuses, unknown, number};
 ghost use Rattle.wire.specs.Told.{refusalTold, wroteTold};
 ghost use Rattle.board_answer.specs.Told.{counted};
 use wire::Refusal;
@@ -38,6 +38,13 @@ pub fn refused(e: Refusal) -> Counted
         refusal: refusal_number(e),
         count: 0,
     }
+}
+
+// The refusal of a number that stands for nothing: an unknown type, a flag other than 0 and 1.
+pub fn unknown() -> Counted
+    ensures { λ r. ⌜ r ≡ counted (refuses unknown) ⌝ }
+{
+    refused(Refusal::Unknown)
 }
 
 // A count.
