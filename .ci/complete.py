@@ -3,6 +3,7 @@
 - The public list is what crates/morelquilt hands on, and each call's row says where it is proved,
   what its contract is, and at least two must-fail edits that are wrong programs: edits of code, not of
   a promise or a definition. Its words are the contract's own.
+- The exports are the `extern "C"` functions of crates/board, and each one's row says the same of it, as far as it has it.
 - Every other `pub fn` of a library stands under "Not public", by its path, its module or its crate.
 - A module `inner`, whose functions may ask something of their caller, says at its head for whom it is: for the crates of
   this repository, and one of them uses it, or for its crate alone.
@@ -22,6 +23,10 @@ from sources import Sources
 
 FACADE = 'morelquilt'
 COLUMNS = ['Call', 'Proved as', 'Contract', 'Definition', 'Decided by', 'Must-fail edits']
+EXPORTER = 'board'
+EXPORT_COLUMNS = ['Export', 'Proved as', 'Contract', 'Definition', 'Must-fail edits']
+# What the short words of an export's contract stand for.
+SHORT = {'W of': ['wrote', 'fitted', 'roomAfter'], 'R of': ['place', 'after']}
 # Calls without two wrong programs among their edits. Each is one expression proved by hand along the
 # compiled code, where other code is refused for its shape whatever it computes; their edits change the
 # promise. One that has two wrong programs by now is a fault too.
@@ -33,16 +38,18 @@ def quoted(text):
 
 
 class Public:
-    """docs/PUBLIC.md: rows by call, the types, and the names under "Not public"."""
+    """docs/PUBLIC.md: rows by call, rows by export, the types, and the names under "Not public"."""
 
     def __init__(self, text):
         front, _, behind = text.partition('\n## Not public\n')
-        self.rows, self.titles = [], []
+        self.rows, self.exports, self.titles = [], [], []
         for line in front.splitlines():
             cells = [cell.strip() for cell in line.strip().strip('|').split('|')]
             if line.startswith('| `%s::' % FACADE):
                 self.rows.append(cells)
-            elif line.startswith('| Call '):
+            elif line.startswith('| `%s_' % FACADE):
+                self.exports.append(cells)
+            elif line.startswith(('| Call ', '| Export ')):
                 self.titles.append(cells)
         self.plain = ' '.join(line for line in front.splitlines() if not line.startswith('|'))
         self.types = {word for word in quoted(self.plain) if re.fullmatch(FACADE + r'::[A-Z]\w*', word)}
@@ -80,6 +87,35 @@ def wrong_programs(root):
     return found
 
 
+def contract_faults(call, contract, said):
+    """The contract of a call against the words that its row says."""
+    if 'ensures' not in contract:
+        yield '%s has no contract' % call
+    if 'requires' in contract:
+        yield '%s asks something of its caller' % call
+    for word in said:
+        if not re.search(r'\b%s\b' % word, contract):
+            yield '%s: its contract does not say %s' % (call, word)
+
+
+def edits_faults(call, home, cell, uses, wrong):
+    """The must-fail edits of a call that is proved in the crate `home`."""
+    edits = {word for word in quoted(cell) if '!' in word}
+    for edit in sorted(edits):
+        if edit.partition('!')[0] not in {home} | uses[home]:
+            yield '%s does not use the crate of %s' % (call, edit)
+    if len(edits) < 2:
+        yield '%s has %d must-fail edits' % (call, len(edits))
+    programs = len(edits & wrong)
+    if (programs < 2) != (call in PROMISE_ONLY):
+        yield '%s has %d wrong programs among its edits' % (call, programs) + (', and is listed as having none' if programs > 1 else '')
+
+
+def said_words(cells):
+    """The words of a row's contract, and its definition."""
+    return re.findall(r'[A-Za-z]{3,}', ' '.join(quoted(cells[2]))) + [word.rpartition('.')[2] for word in quoted(cells[3])[:1]]
+
+
 def row_faults(cells, exported, sources, uses, wrong):
     """What is wrong with the row of one call."""
     if len(cells) != len(COLUMNS):
@@ -90,33 +126,44 @@ def row_faults(cells, exported, sources, uses, wrong):
     if quoted(cells[1]) != [item.path]:
         yield '%s is proved as %s' % (call, item.path)
     contract = sources.contract(item.path)
-    if 'ensures' not in contract:
-        yield '%s has no contract' % call
-    if 'requires' in contract:
-        yield '%s asks something of its caller' % call
-    said = re.findall(r'[A-Za-z]{3,}', ' '.join(quoted(cells[2])))
-    said += [word.rpartition('.')[2] for word in quoted(cells[3])[:1]]
+    said = said_words(cells)
     if (reads := re.search(r'\broomAfter\w+', contract)) and reads[0] not in cells[2]:
         yield '%s has a room, and its row does not say %s' % (call, reads[0])
     if cells[2].startswith('W of ') or re.search(r'\broomAfter\b', contract):
         said += ['wroteTold', 'wrote', 'fitted', 'roomAfter']
         if not cells[2].startswith('W of '):
             yield '%s has a room, and its row does not say W' % call
-    for word in said:
-        if not re.search(r'\b%s\b' % word, contract):
-            yield '%s: its contract does not say %s' % (call, word)
+    yield from contract_faults(call, contract, said)
     if not re.fullmatch(r'`\w+/proofs/[^`]+`', cells[4]):
         yield '%s is decided by no theorem' % call
-    edits = {word for word in quoted(cells[5]) if '!' in word}
-    for edit in sorted(edits):
-        crate = edit.partition('!')[0]
-        if crate not in {item.path.partition('::')[0]} | uses[item.path.partition('::')[0]]:
-            yield '%s does not use the crate of %s' % (call, edit)
-    if len(edits) < 2:
-        yield '%s has %d must-fail edits' % (call, len(edits))
-    programs = len(edits & wrong)
-    if (programs < 2) != (call in PROMISE_ONLY):
-        yield '%s has %d wrong programs among its edits' % (call, programs) + (', and is listed as having none' if programs > 1 else '')
+    yield from edits_faults(call, item.path.partition('::')[0], cells[5], uses, wrong)
+
+
+def export_row_faults(cells, sources, uses, wrong):
+    """What is wrong with the row of one export."""
+    if len(cells) != len(EXPORT_COLUMNS):
+        yield 'a row of %d cells' % len(cells)
+        return
+    call = quoted(cells[0])[0]
+    path = EXPORTER + '::' + call
+    below = [name for name in sources.exports(EXPORTER)[path] if not name.startswith('board_answer::')]
+    if quoted(cells[1]) != below:
+        yield '%s is proved as %s' % (call, ', '.join(below))
+    contract = sources.contract(path)
+    said = said_words(cells) + ['counted'] + SHORT.get(cells[2].partition(' `')[0], [])
+    for word in sorted(set(re.findall(r'\b\w*[aA]fter\b', contract)) - set(said)):
+        yield '%s leaves something, and its row does not say %s' % (call, word)
+    yield from contract_faults(call, contract, said)
+    yield from edits_faults(call, EXPORTER, cells[4], uses, wrong)
+
+
+def listing_faults(there, listed, other):
+    """A table's first column against what is there."""
+    for name in sorted(there ^ set(listed)):
+        yield '%s is %s' % (name, 'not listed' if name in there else 'listed, and ' + other)
+    for name, times in collections.Counter(listed).items():
+        if times > 1:
+            yield '%s is listed twice' % name
 
 
 def public_faults(root, sources):
@@ -127,18 +174,19 @@ def public_faults(root, sources):
     exported = {name: item for name, item in exported.items() if item}
     calls = {name for name, item in exported.items() if item.kind == 'call'}
     listed = [quoted(cells[0])[0] for cells in page.rows]
-    if any(titles != COLUMNS for titles in page.titles):
-        yield 'the table has other columns'
-    for call in sorted(calls ^ set(listed)):
-        yield '%s is %s' % (call, 'not listed' if call in calls else 'listed, and not handed on by crates/' + FACADE)
-    for call, times in collections.Counter(listed).items():
-        if times > 1:
-            yield '%s is listed twice' % call
+    if page.titles != [COLUMNS, EXPORT_COLUMNS]:
+        yield 'the tables have other columns'
+    yield from listing_faults(calls, listed, 'not handed on by crates/' + FACADE)
     wrong = wrong_programs(root)
     for cells in page.rows:
         if quoted(cells[0])[0] in calls:
             yield from row_faults(cells, exported, sources, uses, wrong)
-    named = {word for cells in page.rows for word in quoted(cells[-1]) if '!' in word}
+    exports = {path.partition('::')[2] for path in sources.exports(EXPORTER)}
+    yield from listing_faults(exports, [quoted(cells[0])[0] for cells in page.exports], 'not exported by crates/' + EXPORTER)
+    for cells in page.exports:
+        if quoted(cells[0])[0] in exports:
+            yield from export_row_faults(cells, sources, uses, wrong)
+    named = {word for cells in page.rows + page.exports for word in quoted(cells[-1]) if '!' in word}
     if 'Of the %d edits named, %d are wrong programs' % (len(named), len(named & wrong)) not in page.plain:
         yield 'of the %d edits named, %d are wrong programs, and the page does not say so' % (len(named), len(named & wrong))
     for call in PROMISE_ONLY:
@@ -147,7 +195,7 @@ def public_faults(root, sources):
     types = {name for name, item in exported.items() if item.kind == 'type'}
     for name in sorted(types ^ page.types):
         yield 'the type %s is %s' % (name, 'not listed' if name in types else 'listed, and not handed on')
-    yield from hidden_faults(page, sources, {exported[call].path for call in calls})
+    yield from hidden_faults(page, sources, {exported[call].path for call in calls} | set(sources.exports(EXPORTER)))
 
 
 def hidden_faults(page, sources, public):

@@ -63,6 +63,16 @@ NAMES_AND_LISTS = [
     Sabotage('docs/PUBLIC.md', ', and the room afterwards ≡ `roomAfterJoin text s at room`', '', 'morelquilt::Cursor::join_plp has a room, and its row does not say roomAfterJoin'),
     Sabotage('crates/columns/src/inner.rt', ', for the crates of this repository.', '.', 'crates/columns/src/inner.rt does not say for whom it is'),
     Sabotage('crates/untyped_write/src/lib.rt', 'mod inner;', 'pub mod inner;', 'crates/untyped_write/src/inner.rt is for no crate but its own, and is public'),
+    # the exports
+    Sabotage('crates/board/src/lib.rt', '// How many bytes UTF-8 takes in UTF-16LE.\n', '#[no_mangle]\npub extern "C" fn morelquilt_stray() -> Counted\n{\n    board_answer::unknown()\n}\n\n// ',
+             'morelquilt_stray is not listed'),
+    Sabotage('docs/PUBLIC.md', '| `morelquilt_guid_write` |', '| `morelquilt_guid_wrote` |', 'morelquilt_guid_wrote is listed, and not exported by crates/board'),
+    Sabotage('crates/board/src/lib.rt', 'board_packet::header_read(bytes, at, fields)', 'board_packet::header_reads(bytes, at, fields)',
+             'morelquilt_header_read is proved as board_packet::header_reads'),
+    Sabotage('docs/PUBLIC.md', 'R of `numberAt width high s at`', 'R of `guidAt width high s at`', 'morelquilt_number_read: its contract does not say guidAt'),
+    Sabotage('docs/PUBLIC.md', '| R of `walkAt text s at` |', '| `r ≡ counted (place (walkAt text s at))` |', 'morelquilt_walk_open leaves something, and its row does not say after'),
+    Sabotage('docs/PUBLIC.md', ', and the walk afterwards ≡ `walkAfter (walkStep allowed s walk) walk`', '', 'morelquilt_walk_step leaves something, and its row does not say walkAfter'),
+    Sabotage('docs/PUBLIC.md', '`board_packet!three_refused`, ', '', 'morelquilt_prelogin_write has 1 must-fail edits'),
     # edits and crates
     Sabotage('crates/header/must-fail/id_twice.edit', '', None, 'there is no must-fail edit header!id_twice'),
     Sabotage('crates/header/must-fail/seven_written.edit', 'old: Wrote::Bytes(8)', 'old: Wrote::Bytes(88)',
@@ -96,9 +106,10 @@ NAMES_AND_LISTS = [
     Sabotage('cases/rust.jsonl', '{"id":2000003,', '{"id":2900003,', 'cases/rust.jsonl is not the file that cases/sums.txt names'),
 ]
 
-# Of stdin, stdout and the cases behind them, each alone.
+# Of stdin, stdout and the cases behind them, and one that ends the check of a page, each alone.
 BOTH = 'crates/replay/stdin and stdout: not what the cases make'
 ALONE = [
+    Sabotage('crates/board/src/lib.rt', '', '\nextern "C" fn stray() {}\n', 'an `extern "C" fn` stands where it is not looked for'),
     Sabotage('crates/replay/stdin', '', '\0', 'crates/replay/stdin: not what the cases make'),
     Sabotage('crates/replay/stdout', 'ok 8 4 1 32 51 1 0\n', 'ok 8 4 1 32 51 1 1\n', 'crates/replay/stdout: not what the cases make'),
     Sabotage('crates/replay/stdout', 'ok 8 4 1 32 51 1 0\n', '', 'lines, the answered ops have'),

@@ -134,11 +134,19 @@ class Sources:
         if owner:
             text = re.search(r'(?ms)^impl %s \{.*?^\}' % owner, text)[0]
         head = []
-        for line in text[re.search(r'(?m)^ *pub fn %s[(<]' % words[-1], text).start():].splitlines():
+        for line in text[re.search(r'(?m)^ *pub (?:extern "C" )?fn %s[(<]' % words[-1], text).start():].splitlines():
             head.append(line)
             if line.endswith('{'):
                 break
         return '\n'.join(head)
+
+    def exports(self, crate):
+        """The functions that a crate exports to C, each with the calls of its body."""
+        text = ''.join(file.read_text() for file in sorted((self.crates / crate / 'src').glob('**/*.rt')))
+        bodies = re.findall(r'(?ms)^pub extern "C" fn (\w+)\(.*?^\{\n(.*?)^\}', text)
+        if len(bodies) != text.count('extern "C" fn '):
+            raise ValueError('crates/%s/src: an `extern "C" fn` stands where it is not looked for' % crate)
+        return {crate + '::' + name: re.findall(r'\b\w+::\w+(?=\()', body) for name, body in bodies}
 
 
 def definitions(path):
