@@ -91,7 +91,7 @@ NAMES_AND_LISTS = [
     Sabotage('bindings/c/morelquilt.h', '    uint8_t sort;  ', '    uint16_t sort;  ', 'morelquilt.h: column of morelquilt_column_size is const Column, and in the source const [u8; 16]'),
     Sabotage('bindings/rust/morelquilt-sys/src/lib.rs', '    pub sum: u64,\n    pub known: u64,\n', '    pub known: u64,\n    pub sum: u64,\n', 'the struct Walk is '),
     Sabotage('bindings/rust/morelquilt-sys/src/lib.rs', 'window: u8, out', 'window: u16, out', 'lib.rs: window of morelquilt_header_write is u16, and in the source u8'),
-    Sabotage('bindings/rust/morelquilt-sys/src/lib.rs', '    pub fn morelquilt_utf16_size(', '    fn morelquilt_utf16_size(', 'lib.rs: morelquilt_utf16_size is not there'),
+    Sabotage('bindings/rust/morelquilt-sys/src/lib.rs', '    pub fn morelquilt_guid_write(', '    fn morelquilt_guid_write(', 'lib.rs: morelquilt_guid_write is not there'),
     Sabotage('bindings/rust/morelquilt-sys/src/lib.rs', 'TYPE_INTN: u8 = 0x26', 'TYPE_INTN: u8 = 0x27', 'TYPE_INTN is 39 in C or Rust alone'),
     Sabotage('bindings/rust/morelquilt/src/walk.rs', '// SAFETY: ', '// ', 'walk.rs:46: an unsafe block that does not say why it is sound'),
     Sabotage('crates/board/src/lib.rt', 'fn morelquilt_to_utf16(text: &[u8], out: &mut [u8])', 'fn morelquilt_to_utf16(text: &[u8], out: &mut [u16])',
