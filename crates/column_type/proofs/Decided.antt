@@ -33,26 +33,13 @@ use Rattle.column_type.specs.declared.Schema.the-variants as S
 use Rattle.column_type.specs.declared.Column.{Column}
 use Rattle.column_type.specs.declared.ColumnRead.{ColumnRead}
 use Rattle.column_type.specs.declared.ColumnRead.the-variants as CR
+use Rattle.column_type.specs.Back.{fixedBack, byteLenBack, uShortLenBack, longLenBack, typeBack}
 use Rattle.column_type.specs.Told.{fixedTold, byteLenTold, uShortLenTold, longLenTold, typeTold, collationTold, nameTold, schemaTold}
 use Rattle.column_type.specs.Told.{columnTold, columnReadTold, nameBytes, NameIn, SchemaFrom, NamesFrom}
 use Rattle.column_type.proofs.ReadLaws.{name-inside}
 use Rattle.column_type.proofs.RuleLaws.{length-name}
 
 -- ---- the type byte
-
-abbrev fixedBack : D.FixedLen → FixedLen
-fixedBack D.FixedLen.null = F.Null
-fixedBack D.FixedLen.int1 = F.Int1
-fixedBack D.FixedLen.bit = F.Bit
-fixedBack D.FixedLen.int2 = F.Int2
-fixedBack D.FixedLen.int4 = F.Int4
-fixedBack D.FixedLen.datetime4 = F.Datetime4
-fixedBack D.FixedLen.float4 = F.Float4
-fixedBack D.FixedLen.money = F.Money
-fixedBack D.FixedLen.datetime = F.Datetime
-fixedBack D.FixedLen.float8 = F.Float8
-fixedBack D.FixedLen.money4 = F.Money4
-fixedBack D.FixedLen.int8 = F.Int8
 
 fixed-undoes : Undoes fixedTold fixedBack
 fixed-undoes F.Null = refl
@@ -68,19 +55,6 @@ fixed-undoes F.Float8 = refl
 fixed-undoes F.Money4 = refl
 fixed-undoes F.Int8 = refl
 
-abbrev byteLenBack : D.ByteLen → ByteLen
-byteLenBack D.ByteLen.guid = B.Guid
-byteLenBack D.ByteLen.intn = B.Intn
-byteLenBack D.ByteLen.bitn = B.Bitn
-byteLenBack D.ByteLen.decimaln = B.Decimaln
-byteLenBack D.ByteLen.numericn = B.Numericn
-byteLenBack D.ByteLen.floatn = B.Floatn
-byteLenBack D.ByteLen.moneyn = B.Moneyn
-byteLenBack D.ByteLen.datetimen = B.Datetimen
-byteLenBack D.ByteLen.timen = B.Timen
-byteLenBack D.ByteLen.datetime2 = B.Datetime2
-byteLenBack D.ByteLen.datetimeOffsetn = B.DatetimeOffsetn
-
 byte-len-undoes : Undoes byteLenTold byteLenBack
 byte-len-undoes B.Guid = refl
 byte-len-undoes B.Intn = refl
@@ -94,14 +68,6 @@ byte-len-undoes B.Timen = refl
 byte-len-undoes B.Datetime2 = refl
 byte-len-undoes B.DatetimeOffsetn = refl
 
-abbrev uShortLenBack : D.UShortLen → UShortLen
-uShortLenBack D.UShortLen.bigVarBin = U.BigVarBin
-uShortLenBack D.UShortLen.bigVarChar = U.BigVarChar
-uShortLenBack D.UShortLen.bigBinary = U.BigBinary
-uShortLenBack D.UShortLen.bigChar = U.BigChar
-uShortLenBack D.UShortLen.nVarchar = U.NVarchar
-uShortLenBack D.UShortLen.nChar = U.NChar
-
 u-short-len-undoes : Undoes uShortLenTold uShortLenBack
 u-short-len-undoes U.BigVarBin = refl
 u-short-len-undoes U.BigVarChar = refl
@@ -110,27 +76,12 @@ u-short-len-undoes U.BigChar = refl
 u-short-len-undoes U.NVarchar = refl
 u-short-len-undoes U.NChar = refl
 
-abbrev longLenBack : D.LongLen → LongLen
-longLenBack D.LongLen.image = L.Image
-longLenBack D.LongLen.text = L.Text
-longLenBack D.LongLen.nText = L.NText
-
 long-len-undoes : Undoes longLenTold longLenBack
 long-len-undoes L.Image = refl
 long-len-undoes L.Text = refl
 long-len-undoes L.NText = refl
 
-abbrev typeBack : D.TypeId → TypeId
-typeBack (D.fixedLen t) = T.Fixed (fixedBack t)
-typeBack (D.byteLen t) = T.Byte (byteLenBack t)
-typeBack (D.uShortLen t) = T.UShort (uShortLenBack t)
-typeBack (D.longLen t) = T.Long (longLenBack t)
-typeBack D.daten = T.Daten
-typeBack D.xml = T.Xml
-typeBack D.udt = T.Udt
-typeBack D.ssVariant = T.SsVariant
-
-type-undoes : Undoes typeTold typeBack
+pub type-undoes : Undoes typeTold typeBack
 type-undoes (T.Fixed t) = ap T.Fixed (fixed-undoes t)
 type-undoes (T.Byte t) = ap T.Byte (byte-len-undoes t)
 type-undoes (T.UShort t) = ap T.UShort (u-short-len-undoes t)

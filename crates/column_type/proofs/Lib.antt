@@ -4,3 +4,4 @@ pub mod RuleLaws
 pub mod WriteLaws
 pub mod Decided
 pub mod RoundTrip
+pub mod Back
