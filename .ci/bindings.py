@@ -3,7 +3,7 @@
 - Exports: the three have the same names, and each export the same parameters: names, order, types. A lent slice `x: &[u8]` of the
   source is a pointer `x` and a length `x_length` in the other two; a reference to an array, a pointer to a struct of such a layout.
 - Structs: fields, order, widths and places are the same in C and Rust, without padding, and have the layout of the source's
-  arrays and of its answer.
+  arrays and of its answer; a column's fields stand where `recordOf` of crates/packed/specs puts them.
 - Numbers: every enumerator of the header is a constant of the Rust; the refusals are those of crates/board_answer, the type
   bytes those of crates/column_byte.
 - Every `unsafe` of the safe crate says why it is sound.
@@ -130,6 +130,25 @@ def parameter_faults(where, structs, name, mine, proved):
             yield '%s: %s of %s is %s, and in the source %s' % (where, parameter, name, kind, wanted)
 
 
+# What the places of a record hold, in the words of `recordOf` and of what it is made of: field, and how many bytes.
+PLACES = re.compile(r'(typeByte) \(c \.type\)|\((collationFlag) .*? \+ schemaFlag .*?\) ∷|lowBytes (\d) (?:\(c \.)?(\w+)\)?|c \.(\w+) ∷|\b(0) ∷')
+FIELDS = {'typeByte': 'ty', 'collationFlag': 'flags', 'info': 'collation', '0': 'zero', 'index': 'names'}
+
+
+def record_places(root):
+    """The fields of a column's record, with their widths, by the definition."""
+    text = (root / 'crates/packed/specs/Packed.antt').read_text()
+    body = re.search(r'(?m)^recordOf c index =\n((?: +.*\n)+)', text)[1]
+    for part in ('collationPlaces', 'indexPlaces'):
+        present = re.search(r'(?m)^%s \(some \w+\)(?: index)? = (.*)$' % part, text)[1]
+        body = re.sub(r'%s \(c \.\w+\)(?: index)?' % part, lambda _: present, body)
+    found = []
+    for typed, flags, width, wide, single, zero in PLACES.findall(body):
+        name = typed or flags or wide or single or zero
+        found.append((FIELDS.get(name, name), 'u%d' % (8 * int(width or 1))))
+    return found
+
+
 def enumerators(text):
     found = re.findall(r'\bMORELQUILT_(\w+) = (0x[0-9A-F]+|\d+)', re.sub(r'(?s)/\*.*?\*/', '', text))
     return {name: int(number, 0) for name, number in found}
@@ -192,6 +211,8 @@ def faults(root):
     for name in sorted(set(c_structs) & set(declared)):
         if c_structs[name] != declared[name]:
             yield 'the struct %s is %s in C, and %s in Rust' % (name, c_structs[name], declared[name])
+    if (places_of := record_places(root)) != declared.get('Column'):
+        yield '%s: a column is %s, and by recordOf %s' % (RUST, declared.get('Column'), places_of)
     yield from number_faults(root, text, rust_text)
     yield from unsafe_faults(root)
     yield from page_faults(root, proved)

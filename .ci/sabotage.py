@@ -96,6 +96,7 @@ NAMES_AND_LISTS = [
     Sabotage('bindings/rust/morelquilt/src/walk.rs', '// SAFETY: ', '// ', 'walk.rs:46: an unsafe block that does not say why it is sound'),
     Sabotage('crates/board/src/lib.rt', 'fn morelquilt_to_utf16(text: &[u8], out: &mut [u8])', 'fn morelquilt_to_utf16(text: &[u8], out: &mut [u16])',
              'morelquilt.h: out of morelquilt_to_utf16 is mut u8, and in the source mut u16'),
+    Sabotage('crates/packed/specs/Packed.antt', '∷ c .precision ∷ c .scale', '∷ c .scale ∷ c .precision', "and by recordOf [('ty', 'u8'), ('flags', 'u8'), ('scale', 'u8')"),
     Sabotage('docs/BOARD.md', '`morelquilt_guid_read`', 'it', 'docs/BOARD.md: morelquilt_guid_read is not named'),
     Sabotage('docs/BOARD.md', '`tds/codec/header.rs:154` | `decode`', '`tds/codec/header.rs:155` | `decode`', 'docs/BOARD.md: decode does not stand at tds/codec/header.rs:155'),
     # ops, and the cases that were handed to the project
