@@ -138,7 +138,7 @@ FIELDS = {'typeByte': 'ty', 'collationFlag': 'flags', 'info': 'collation', '0': 
 def record_places(root):
     """The fields of a column's record, with their widths, by the definition."""
     text = (root / 'crates/packed/specs/Packed.antt').read_text()
-    body = re.search(r'(?m)^recordOf c index =\n((?: +.*\n)+)', text)[1]
+    body = ' '.join(re.search(r'(?m)^recordOf c index =\n((?: +.*\n)+)', text)[1].split())
     for part in ('collationPlaces', 'indexPlaces'):
         present = re.search(r'(?m)^%s \(some \w+\)(?: index)? = (.*)$' % part, text)[1]
         body = re.sub(r'%s \(c \.\w+\)(?: index)?' % part, lambda _: present, body)
