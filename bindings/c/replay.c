@@ -116,7 +116,8 @@ static void say_desc(const morelquilt_column *c, const morelquilt_names *n) {
 }
 
 static void say_value(const morelquilt_value *v, const uint8_t *row) {
-    static const char *const kinds[] = {"null", "bit", "u8", "i16", "i32", "i64", "f32", "f64", "guid", "binary in", "string in", "binary out", "string out"};
+    static const char *const kinds[] = {"null", "bit",  "u8",        "i16",       "i32",        "i64",       "f32",
+                                        "f64",  "guid", "binary in", "string in", "binary out", "string out"};
     uint8_t text[16];
     if (v->kind > MORELQUILT_STRING_IN_ROOM) {
         fault = "a kind that there is not";
@@ -171,9 +172,8 @@ static int refused(morelquilt_counted c, const void *out, size_t n) {
 
 /* The line of a call that writes into the room, beside the one that finds the size. */
 static void wrote(morelquilt_counted size, morelquilt_counted c) {
-    int fits = !size.refusal && size.count <= room_length;
-    int agree = c.refusal == 0 ? fits && size.count == c.count : c.refusal == MORELQUILT_ROOM ? !size.refusal && !fits : size.refusal == c.refusal && !size.count;
-    if (!agree) fault = "the size is another";
+    if (!size.refusal && size.count > room_length) size = (morelquilt_counted){MORELQUILT_ROOM, 0};
+    if (size.refusal != c.refusal || size.count != c.count) fault = "the size is another";
     if (refused(c, NULL, 0)) say_changed(0);
     else say_wrote(c.count);
 }
