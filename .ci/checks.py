@@ -6,6 +6,7 @@
 - The lists are whole: public calls, must-fail edits, ops of the cases (complete.py).
 - The replay program's stdin and stdout are what the cases make (cases/frames.py).
 - README.md shows what there is (shown.py).
+- Each sentence of docs/TRACE.md has evidence (traced.py), and each name on the pages a source text for the audit page (audit/text.py).
 - The ways in from C and Rust are the proved one (bindings.py).
 
 .ci/sabotage.py tries that each of them can fail.
@@ -18,8 +19,11 @@ import bindings
 import complete
 import names
 import shown
+import traced
 
 ROOT = pathlib.Path(__file__).resolve().parent.parent
+sys.path.insert(0, str(ROOT / 'audit'))
+import text
 
 
 def crate_faults():
@@ -37,7 +41,7 @@ def frame_faults():
 
 def main():
     faults = [fault for check in (crate_faults, frame_faults) for fault in check()]
-    for check in (names.faults, complete.faults, shown.faults, bindings.faults):
+    for check in (names.faults, complete.faults, shown.faults, traced.faults, text.faults, bindings.faults):
         try:
             faults += check(ROOT)
         except ValueError as fault:

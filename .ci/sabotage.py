@@ -99,6 +99,12 @@ NAMES_AND_LISTS = [
     Sabotage('crates/packed/specs/Packed.antt', '∷ c .precision ∷ c .scale', '∷ c .scale ∷ c .precision', "and by recordOf [('ty', 'u8'), ('flags', 'u8'), ('scale', 'u8')"),
     Sabotage('docs/BOARD.md', '`morelquilt_guid_read`', 'it', 'docs/BOARD.md: morelquilt_guid_read is not named'),
     Sabotage('docs/BOARD.md', '`tds/codec/header.rs:154` | `decode`', '`tds/codec/header.rs:155` | `decode`', 'docs/BOARD.md: decode does not stand at tds/codec/header.rs:155'),
+    # docs/TRACE.md: evidence
+    Sabotage('docs/TRACE.md', '| `prelogin::write_prelogin` | `cases:prelogin` |', '| | `cases:prelogin` |', 'docs/TRACE.md: Prelogin message, writing has no evidence'),
+    Sabotage('docs/TRACE.md', '| `text::to_utf16`, `text::to_utf8` | `cases:utf8-pairs`', '| it is proved | `cases:utf8-pairs`', "or text out meets an unpaired surrogate has no evidence"),
+    Sabotage('docs/TRACE.md', '| `Header.readHeader` | `header/proofs/Laws.header-short` |', '| `header/proofs/Laws.header-short` |', 'the row of Fewer than 8 bytes: 1, before anything else has 3 cells for 4 titles'),
+    Sabotage('docs/TRACE.md', '| marked (02): still to come, with that request |', '| `wire::Refusal` |', 'constant table" has evidence, and is listed as having none'),
+    Sabotage('docs/TRACE.md', '`wire::Refusal`, by', '`demands/proofs/Demand3.took-bytes`, by', 'docs/TRACE.md: no source text is found for demands/proofs/Demand3.took-bytes'),
     # ops, and the cases that were handed to the project
     Sabotage('cases/ops.txt', 'type_read\n', '', 'the op type_read is neither in cases/ops.txt nor in cases/to-come.txt'),
     Sabotage('cases/to-come.txt', '', 'type_write\n', 'the op type_write is in cases/ops.txt and in cases/to-come.txt'),

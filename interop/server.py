@@ -1,4 +1,4 @@
-"""A server on 127.0.0.1 that logs anyone in and answers every query with one result: a column list and a row given as bytes."""
+"""A server on 127.0.0.1 that logs anyone in and answers every query with one result, given as bytes."""
 import socket
 import struct
 import threading
@@ -7,6 +7,10 @@ import threading
 def packet(kind, body):
     """One TDS packet, end of message: type, status, length, SPID 51, id 1, window 0."""
     return struct.pack('>BBHHBB', kind, 1, 8 + len(body), 51, 1, 0) + body
+
+
+def in_one(kind, body):
+    return [packet(kind, body)]
 
 
 def counted(text):
@@ -35,16 +39,17 @@ def logged_in():
     return b'\xad' + struct.pack('<H', len(acknowledged)) + acknowledged + b'\xe3' + struct.pack('<H', len(size)) + size + done(0)
 
 
-def result(column, row):
-    """COLMETADATA for one nullable column named x, the row, and the end."""
-    return b'\x81' + struct.pack('<HIH', 1, 0, 9) + column + counted('x') + b'\xd1' + row + done(1)
+def result(columns, rows):
+    """COLMETADATA for nullable columns named x, x2, x3 .., the rows, and the end."""
+    named = (struct.pack('<IH', 0, 9) + column + counted('x%d' % number if number > 1 else 'x') for number, column in enumerate(columns, 1))
+    return b'\x81' + struct.pack('<H', len(columns)) + b''.join(named) + b''.join(b'\xd1' + row for row in rows) + done(len(rows))
 
 
 class Server:
-    """Answers one client; `greeting` is its prelogin answer. `talk` holds what was sent: (from the client?, bytes), a whole packet each."""
+    """Answers one client. `greeting` is its prelogin answer, `packets` makes the packets of a message. `talk` holds what was sent: (from the client?, bytes), a whole packet each."""
 
-    def __init__(self, column, row, greeting=None):
-        self.answer = result(column, row)
+    def __init__(self, answer, greeting=None, packets=in_one):
+        self.answer, self.packets = answer, packets
         self.greeting = prelogin() if greeting is None else greeting
         self.talk = []
         self.listener = socket.create_server(('127.0.0.1', 0))
@@ -63,8 +68,9 @@ class Server:
         return data
 
     def send(self, client, body):
-        self.talk.append((False, packet(4, body)))
-        client.sendall(packet(4, body))
+        for one in self.packets(4, body):
+            self.talk.append((False, one))
+            client.sendall(one)
 
     def serve(self):
         try:

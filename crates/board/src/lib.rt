@@ -1,6 +1,7 @@
 // The calls for C and Rust: docs/PUBLIC.md, "The exports". What crosses is numbers, slices (a
 // pointer, then a length), pointers to numbers and to arrays of them, and a struct of two numbers as
-// the answer. Each export is one call of a library, whose contract it has.
+// the answer. Each export is one call of a library, whose contract it has; those of text turn the
+// library's answer into the struct.
 ghost use mathlib.Core.Path.{_≡_};
 ghost use lib.ListN.{length};
 ghost use Rattle.format.specs.Answer.{gives, andThen, fitted, wrote, roomAfter};

@@ -16,7 +16,7 @@ headerNumbers h = h .type ∷ h .status ∷ h .length ∷ h .spid ∷ h .id ∷ 
 abbrev pub headerAt : List ℕ → ℕ → Read (List ℕ)
 headerAt s at = mapRead headerNumbers (readAt readHeader s at)
 
--- the header of six numbers: "2: unknown packet type, packet status", before anything else
+-- the header of six numbers: "unknown packet type, packet status" is 2, before anything else
 abbrev pub headerGiven : ℕ → ℕ → ℕ → ℕ → ℕ → ℕ → Answer H.Header
 headerGiven type status length spid id window =
     andThen (known packetTypes type) (λ t.

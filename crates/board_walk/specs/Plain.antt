@@ -1,4 +1,4 @@
--- A walk over PLP chunks as six numbers: at, sum, known, total, text, ended. Three of them are flags, 0 or 1; another number is 2 before anything else.
+-- A walk over PLP chunks as six numbers: at, sum, known, total, text, ended. Three are flags, 0 or 1; another number there is 2 before anything else.
 use Prim.Native.Nat.{ℕ}
 use mathlib.Core.Bool.{Bool, true}
 use mathlib.Core.List.{List, [], _∷_}
@@ -14,7 +14,7 @@ use Rattle.format.specs.Plp.{Walk, Walked, openWalk, walkChunks}
 abbrev pub flag : Bool → ℕ
 flag b = pick b 1 0
 
--- a total that is not known is 0 and 0
+-- a total that is not known is two zeros
 abbrev pub knownNumber : Option ℕ → ℕ
 knownNumber none = 0
 knownNumber (some n) = 1
@@ -26,8 +26,9 @@ totalNumber (some n) = n
 abbrev pub walkNumbers : Walk → List ℕ
 walkNumbers w = w .at ∷ w .sum ∷ knownNumber (w .total) ∷ totalNumber (w .total) ∷ flag (w .text) ∷ flag (w .ended) ∷ []
 
--- ---- a walk opened: the walk behind the eight bytes. "A null has no chunks": its walk has ended at once, at the next place
+-- ---- a walk opened
 
+-- a null has no chunks: its walk has ended at once, at the next place
 abbrev pub nullWalk : Bool → ℕ → Walk
 nullWalk text next = record { at = next; sum = 0; total = none; text = text; ended = true }
 
@@ -36,6 +37,7 @@ openedNumbers text (took (some w) next) = took (walkNumbers w) next
 openedNumbers text (took none next) = took (walkNumbers (nullWalk text next)) next
 openedNumbers text (stops e) = stops e
 
+-- the walk behind the eight bytes at a place
 abbrev pub walkAt : ℕ → List ℕ → ℕ → Read (List ℕ)
 walkAt text s at = stopIf (ltb 1 text) unknown (openedNumbers (eqb text 1) (openWalk (eqb text 1) s at))
 
@@ -45,6 +47,7 @@ walkAt text s at = stopIf (ltb 1 text) unknown (openedNumbers (eqb text 1) (open
 abbrev pub totalGiven : ℕ → ℕ → Option ℕ
 totalGiven known total = pick (eqb known 1) (some total) none
 
+-- the walk of six numbers
 abbrev pub walkGiven : ℕ → ℕ → ℕ → ℕ → ℕ → ℕ → Answer Walk
 walkGiven at sum known total text ended =
     refuseIf (ltb 1 known) unknown
@@ -52,6 +55,7 @@ walkGiven at sum known total text ended =
     (refuseIf (ltb 1 ended) unknown
     (gives (record { at = at; sum = sum; total = totalGiven known total; text = eqb text 1; ended = eqb ended 1 }))))
 
+-- the six numbers' walk, and how far it comes
 abbrev pub walkStep : ℕ → List ℕ → List ℕ → Answer Walked
 walkStep allowed s n =
     andThen (walkGiven (getD n 0 0) (getD n 1 0) (getD n 2 0) (getD n 3 0) (getD n 4 0) (getD n 5 0)) (walkChunks allowed s)
