@@ -1,34 +1,10 @@
--- A column's descriptor as a record of 16 bytes, and beside it six numbers: start and units of XML_INFO's three names.
-use Prim.Native.Nat.{ℕ, _+_, _*_, _/_}
-use mathlib.Core.List.{List, [], _∷_}
-use mathlib.Core.Option.{Option, none, some}
-use lib.ListN.{length, getD}
-use Rattle.format.specs.Answer.{Answer, Read, mapRead, readAt, Part, inside, outside, part}
-use Rattle.format.specs.Descriptor.{Column, Schema, readColumn, writeColumn}
-use Rattle.packed.specs.Packed.{recordOf, columnOf}
-
--- ---- read: the record; "index goes into bytes 14 and 15 where the column has a schema"
-
-abbrev pub recordAt : ℕ → List ℕ → ℕ → Read (List ℕ)
-recordAt index s at = mapRead (λ c. recordOf c index) (readAt readColumn s at)
-
--- the names' places in the input: the first behind the type byte, the marker and a count of one byte, each other behind the name before it and its own count,
--- of one byte and of two. Six zeros without a schema.
-abbrev pub units : Part → ℕ
-units (inside s) = length s / 2
-units outside = 0
-
-abbrev pub spans : ℕ → ℕ → ℕ → ℕ → List ℕ
-spans start a b c = start ∷ a ∷ (start + 2 * a + 1) ∷ b ∷ (start + 2 * a + 1 + 2 * b + 2) ∷ c ∷ []
-
-abbrev pub schemaSpans : ℕ → Option Schema → List ℕ
-schemaSpans at none = 0 ∷ 0 ∷ 0 ∷ 0 ∷ 0 ∷ 0 ∷ []
-schemaSpans at (some n) = spans (at + 3) (units (n .database)) (units (n .owner)) (units (n .collection))
-
-abbrev pub spansAt : List ℕ → ℕ → Read (List ℕ)
-spansAt s at = mapRead (λ c. schemaSpans at (c .schema)) (readAt readColumn s at)
-
--- ---- written: the column of the record, its names the parts of the buffer that the six numbers name
+-- A column's descriptor to be written: a record of 16 bytes, and beside it six numbers, start and units of XML_INFO's three names in the lent buffer.
+use Prim.Native.Nat.{ℕ, _*_}
+use mathlib.Core.List.{List}
+use lib.ListN.{getD}
+use Rattle.format.specs.Answer.{Answer, Part, part}
+use Rattle.format.specs.Descriptor.{Schema, writeColumn}
+use Rattle.packed.specs.Packed.{columnOf}
 
 abbrev pub nameIn : List ℕ → ℕ → ℕ → Part
 nameIn buffer start units = part buffer start (2 * units)
@@ -41,5 +17,6 @@ namesIn buffer n =
       collection = nameIn buffer (getD n 4 0) (getD n 5 0);
     }
 
+-- the column of the record, with the names that the numbers name
 abbrev pub columnGiven : List ℕ → List ℕ → List ℕ → Answer (List ℕ)
 columnGiven column names buffer = writeColumn (columnOf column (namesIn buffer names))

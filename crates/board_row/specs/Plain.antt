@@ -1,45 +1,11 @@
--- Rows of plain numbers: columns as a packed table, values three numbers each.
+-- A row of plain numbers to be written: columns as a packed table, values three numbers each.
 use Prim.Native.Nat.{ℕ}
-use mathlib.Core.List.{List, [], _∷_}
-use lib.ListN.{length}
-use Rattle.format.specs.Answer.{Answer, gives, refuses, Read, took, stops, mapRead, readAt, fittedRead, roomAfterRead}
-use Rattle.format.specs.Descriptor.{Column}
-use Rattle.format.specs.Value.{Value}
-use Rattle.format.specs.Row.{readRow, writeRow, copiedOutRow}
-use Rattle.format.specs.Normal.{normal, encodeRow}
+use mathlib.Core.List.{List}
+use Rattle.format.specs.Answer.{Answer}
+use Rattle.format.specs.Row.{writeRow}
 use Rattle.packed.specs.Packed.{tableColumns}
 use Rattle.packed_value.specs.Numbers.{givens, noValues, unless}
 
--- ---- written: the values' numbers are judged "before the row's own rules"
-
+-- the values' numbers are judged "before the row's own rules"
 abbrev pub rowGiven : List ℕ → List ℕ → List ℕ → Answer (List ℕ)
 rowGiven table values buffer = unless (noValues values) (writeRow (tableColumns table) (givens buffer values))
-
--- ---- what a row needs: the bytes of room that reading takes, and the bytes of the normal form
-
-abbrev pub needsNumbers : List Column → List Value → List ℕ
-needsNumbers cs vs = length (copiedOutRow cs vs) ∷ length (encodeRow cs vs) ∷ []
-
-abbrev pub needsAt : List ℕ → List ℕ → ℕ → Read (List ℕ)
-needsAt table s at = mapRead (needsNumbers (tableColumns table)) (readAt (readRow (tableColumns table)) s at)
-
--- ---- the normal form, in a room of so many bytes
-
-abbrev pub itself : List ℕ → List ℕ
-itself bytes = bytes
-
-abbrev pub normalAt : List ℕ → List ℕ → ℕ → ℕ → Read (List ℕ)
-normalAt table s at size = fittedRead itself (readAt (normal (tableColumns table)) s at) size
-
--- the count is that of the bytes written
-abbrev pub bytes : Read (List ℕ) → Answer ℕ
-bytes (took form next) = gives (length form)
-bytes (stops e) = refuses e
-
-abbrev pub normalRoom : Read (List ℕ) → List ℕ → List ℕ
-normalRoom read out = roomAfterRead itself read out
-
--- where the row ends; at a refusal, what stood there
-abbrev pub ends : {A : Type 0} → Read A → ℕ → ℕ
-ends (took v next) before = next
-ends (stops e) before = before

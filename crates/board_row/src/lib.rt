@@ -1,14 +1,10 @@
-// Rows under a packed table of columns, values three numbers each: sized, written, judged, their
-// normal form.
+// Rows under a packed table of columns, values three numbers each: sized, written.
 ghost use mathlib.Core.Path.{_≡_};
 ghost use lib.ListN.{length};
 ghost use Rattle.format.specs.Answer.{fitted, wrote, roomAfter};
-ghost use Rattle.board_answer.specs.Told.{counted, place, after};
-ghost use Rattle.board_row.specs.Plain.{rowGiven, needsAt, normalAt, bytes, normalRoom, ends};
+ghost use Rattle.board_answer.specs.Told.{counted};
+ghost use Rattle.board_row.specs.Plain.{rowGiven};
 use board_answer::Counted;
-use cursor::Cursor;
-use judge_step::RowJudged;
-use normal_step::Normal;
 
 // How many bytes the row takes.
 pub fn row_size(table: &[u8], values: &[u64], buffer: &[u8]) -> Counted
@@ -23,35 +19,4 @@ pub fn row_write(table: &[u8], values: &[u64], buffer: &[u8], out: &mut [u8]) ->
     ensures room { λ _. ⌜ now (out .exit) ≡ roomAfter (fitted (rowGiven (now (table .entry)) (now (values .entry)) (now (buffer .entry))) (length (now (out .entry)))) (now (out .entry)) ⌝ }
 {
     board_answer::answer(packed_write::write_packed(table, values, buffer, out))
-}
-
-// What the row at a place needs: the bytes of room that reading takes, the bytes of the normal form.
-pub fn row_needs(table: &[u8], row: &[u8], at: usize, needs: &mut [u64; 2]) -> Counted
-    ensures answer { λ r. ⌜ r ≡ counted (place (needsAt (now (table .entry)) (now (row .entry)) at)) ⌝ }
-    ensures room { λ _. ⌜ now (needs .exit) ≡ after (needsAt (now (table .entry)) (now (row .entry)) at) (now (needs .entry)) ⌝ }
-{
-    let judged = packed_judge::judge_packed(table, row, Cursor { at });
-    match judged {
-        RowJudged::Row(n) => {
-            *needs = [n.joined as u64, n.normal as u64];
-            board_answer::at(n.next.at)
-        }
-        RowJudged::Refused(e) => board_answer::refused(e),
-    }
-}
-
-// The normal form of the row at a place, at the front of the room, and where the row ends.
-pub fn row_normal(table: &[u8], row: &[u8], at: usize, out: &mut [u8], next: &mut u64) -> Counted
-    ensures answer { λ r. ⌜ r ≡ counted (bytes (normalAt (now (table .entry)) (now (row .entry)) at (length (now (out .entry))))) ⌝ }
-    ensures room { λ _. ⌜ now (out .exit) ≡ normalRoom (normalAt (now (table .entry)) (now (row .entry)) at (length (now (out .entry)))) (now (out .entry)) ⌝ }
-    ensures next { λ _. ⌜ now (next .exit) ≡ ends (normalAt (now (table .entry)) (now (row .entry)) at (length (now (out .entry)))) (now (next .entry)) ⌝ }
-{
-    let form = packed_normal::normal_packed(table, row, Cursor { at }, out);
-    match form {
-        Normal::Bytes(n, behind) => {
-            *next = behind.at as u64;
-            board_answer::count(n as u64)
-        }
-        Normal::Refused(e) => board_answer::refused(e),
-    }
 }

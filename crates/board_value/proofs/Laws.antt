@@ -8,7 +8,7 @@ use lib.ListN.{length, getD}
 use borrow.Author.Tests.{le-ltb}
 use Rattle.format.specs.Answer.{Refusal, Answer, gives, refuses, Read, took, stops, mapRead, inside, part}
 use Rattle.format.specs.Descriptor as D
-use Rattle.format.specs.Value.{writeValue, writeUntyped}
+use Rattle.format.specs.Value.{writeValue}
 use Rattle.format.specs.Found.{Found}
 use Rattle.column_type.specs.declared.Column.{Column}
 use Rattle.column_type.specs.Told.{columnTold}
@@ -24,7 +24,7 @@ use Rattle.packed_value.proofs.Told.{value-told}
 use Rattle.packed_slot.specs.Slots.{slotOf}
 use Rattle.board_answer.specs.declared.Counted.{Counted}
 use Rattle.board_answer.specs.Told.{counted, place, after}
-use Rattle.board_value.specs.Plain.{valueGiven, untypedGiven, valueAt, roomAt}
+use Rattle.board_value.specs.Plain.{valueGiven, valueAt, roomAt}
 
 -- ---- a record without names stands for its column, whatever the buffer
 
@@ -40,20 +40,13 @@ column-is s r c e = ap (columnTold s) e ∙ (column-told s r noName noName noNam
 
 -- ---- written
 
-module _ (value buffer : List ℕ) where
-  module _ (column : List ℕ) where
-    pub typed-is : (c : Column) (v : Value) → c ≡ columnMade column noName noName noName → v ≡ givenMade value → noValue value ≡ none →
-        writeValue (columnTold buffer c) (valueTold buffer v) ≡ valueGiven column value buffer
-    typed-is c v x y n = rw (n, column-is buffer column c x, y, value-told buffer (getD value 0 0) (getD value 1 0) (getD value 2 0))
+module _ (value buffer column : List ℕ) where
+  pub typed-is : (c : Column) (v : Value) → c ≡ columnMade column noName noName noName → v ≡ givenMade value → noValue value ≡ none →
+      writeValue (columnTold buffer c) (valueTold buffer v) ≡ valueGiven column value buffer
+  typed-is c v x y n = rw (n, column-is buffer column c x, y, value-told buffer (getD value 0 0) (getD value 1 0) (getD value 2 0))
 
-    pub typed-not : (e : Refusal) → some e ≡ noValue value → refuses e ≡ valueGiven column value buffer
-    typed-not e n = rw (← n)
-
-  pub untyped-is : (v : Value) → v ≡ givenMade value → noValue value ≡ none → writeUntyped (valueTold buffer v) ≡ untypedGiven value buffer
-  untyped-is v y n = rw (n, y, value-told buffer (getD value 0 0) (getD value 1 0) (getD value 2 0))
-
-  pub untyped-not : (e : Refusal) → some e ≡ noValue value → refuses e ≡ untypedGiven value buffer
-  untyped-not e n = rw (← n)
+  pub typed-not : (e : Refusal) → some e ≡ noValue value → refuses e ≡ valueGiven column value buffer
+  typed-not e n = rw (← n)
 
 -- ---- read
 

@@ -1,9 +1,8 @@
--- Values as three numbers, under a column as a record of 16 bytes, or with their own descriptor in front. A value does not ask for the column's names.
+-- Values as three numbers, under a column as a record of 16 bytes. A value does not ask for the column's names.
 use Prim.Native.Nat.{ℕ}
 use mathlib.Core.List.{List}
 use Rattle.format.specs.Answer.{Answer, Read}
-use Rattle.format.specs.Descriptor.{Column}
-use Rattle.format.specs.Value.{writeValue, writeUntyped}
+use Rattle.format.specs.Value.{writeValue}
 use Rattle.format.specs.Found.{Found}
 use Rattle.value_read.specs.Told.{foundOut, roomOut}
 use Rattle.packed.specs.Packed.{columnOf, noNames}
@@ -13,9 +12,6 @@ use Rattle.packed_value.specs.Numbers.{given, noValue, unless}
 
 abbrev pub valueGiven : List ℕ → List ℕ → List ℕ → Answer (List ℕ)
 valueGiven column value buffer = unless (noValue value) (writeValue (columnOf column noNames) (given buffer value))
-
-abbrev pub untypedGiven : List ℕ → List ℕ → Answer (List ℕ)
-untypedGiven value buffer = unless (noValue value) (writeUntyped (given buffer value))
 
 -- ---- read: the value at a place of the row, with a room; and the room afterwards
 

@@ -1,12 +1,11 @@
-// Values as three numbers: sized, written and read under a column as a record of 16 bytes; sized and
-// written with their own descriptor in front.
+// Values as three numbers, under a column as a record of 16 bytes: sized, written, read.
 ghost use mathlib.Core.Path.{_≡_};
 ghost use lib.ListN.{length};
 ghost use Rattle.format.specs.Answer.{mapRead, fitted, wrote, roomAfter};
 ghost use Rattle.packed.specs.Made.{columnMade, noName};
 ghost use Rattle.packed_slot.specs.Slots.{slotOf};
 ghost use Rattle.board_answer.specs.Told.{counted, place, after};
-ghost use Rattle.board_value.specs.Plain.{valueGiven, untypedGiven, valueAt, roomAt};
+ghost use Rattle.board_value.specs.Plain.{valueGiven, valueAt, roomAt};
 use board_answer::Counted;
 use column_type::Column;
 use column_type::Name;
@@ -76,34 +75,5 @@ pub fn value_read(
             board_answer::at(next.at)
         }
         ValueRead::Refused(e) => board_answer::refused(e),
-    }
-}
-
-// How many bytes the value takes with its own descriptor in front.
-pub fn untyped_size(value: &[u64; 3], buffer: &[u8]) -> Counted
-    ensures { λ r. ⌜ r ≡ counted (wrote (untypedGiven (now (value .entry)) (now (buffer .entry)))) ⌝ }
-{
-    let judged = packed_value::judge_value(value);
-    match judged {
-        Judged::Fine => {
-            let v = three::value_of(value[0], value[1], value[2]);
-            board_answer::answer(untyped_size::untyped_size(v, buffer))
-        }
-        Judged::Refused(e) => board_answer::refused(e),
-    }
-}
-
-// The value with its own descriptor in front, at the front of the room.
-pub fn untyped_write(value: &[u64; 3], buffer: &[u8], out: &mut [u8]) -> Counted
-    ensures answer { λ r. ⌜ r ≡ counted (wrote (fitted (untypedGiven (now (value .entry)) (now (buffer .entry))) (length (now (out .entry))))) ⌝ }
-    ensures room { λ _. ⌜ now (out .exit) ≡ roomAfter (fitted (untypedGiven (now (value .entry)) (now (buffer .entry))) (length (now (out .entry)))) (now (out .entry)) ⌝ }
-{
-    let judged = packed_value::judge_value(value);
-    match judged {
-        Judged::Fine => {
-            let v = three::value_of(value[0], value[1], value[2]);
-            board_answer::answer(untyped_write::write_untyped(v, buffer, out))
-        }
-        Judged::Refused(e) => board_answer::refused(e),
     }
 }

@@ -1,4 +1,4 @@
--- `board_row::row_needs` meets its contract: the two numbers of a row that was judged, and nothing of a refused one. Assumes nothing.
+-- `board_row_read::row_needs` meets its contract: the two numbers of a row that was judged, and nothing of a refused one. Assumes nothing.
 use mathlib.Core.Path.{refl, sym, ap, _∙_}
 use denote.Ref.{now}
 use Rattle.format.specs.Answer.{mapRead, readAt}
@@ -6,10 +6,10 @@ use Rattle.format.specs.Row.{readRow}
 use Rattle.judge_step.specs.Told.{rowJudgedTold}
 use Rattle.packed.specs.Packed.{tableColumns}
 use Rattle.board_answer.proofs.Laws.{reads-took, reads-stops}
-use Rattle.board_row.proofs.Laws.{numbers, needs-are}
+use Rattle.board_row_read.proofs.Laws.{numbers, needs-are}
 use borrow.Author.Needs.{needs}
-use Rattle.board_row.proofs.row_needs.Statement.{statement}
-use Rattle.board_row.proofs.row_needs.Tie as tie
+use Rattle.board_row_read.proofs.row_needs.Statement.{statement}
+use Rattle.board_row_read.proofs.row_needs.Tie as tie
 
 judge-packed-requires : tie.Need-judge-packed-requires
 judge-packed-requires c κs = search needs

@@ -1,12 +1,12 @@
--- `board_column::column_read` meets its contract: the record and the names' places of a column that was read, and nothing of a refused one. Assumes nothing.
+-- `board_column_read::column_read` meets its contract: the record and the names' places of a column that was read, and nothing of a refused one. Assumes nothing.
 use mathlib.Core.Path.{refl, sym, ap, _∙_, subst}
 use Prim.Native.Nat.{_+_}
 use denote.Ref.{now}
 use Rattle.column_type.specs.Told.{columnReadTold, NamesFrom}
-use Rattle.board_column.proofs.Laws.{leaves-column, leaves-nothing}
+use Rattle.board_column_read.proofs.Laws.{leaves-column, leaves-nothing}
 use borrow.Author.Needs.{needs}
-use Rattle.board_column.proofs.column_read.Statement.{statement}
-use Rattle.board_column.proofs.column_read.Tie as tie
+use Rattle.board_column_read.proofs.column_read.Statement.{statement}
+use Rattle.board_column_read.proofs.column_read.Tie as tie
 
 read-column-requires : tie.Need-read-column-requires
 read-column-requires c κs = search needs

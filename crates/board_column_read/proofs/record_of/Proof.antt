@@ -1,8 +1,8 @@
--- `board_column::record_of` meets its contract: each byte by itself. Assumes nothing.
-use Rattle.board_column.specs.Made.{recordMade}
+-- `board_column_read::record_of` meets its contract: each byte by itself. Assumes nothing.
+use Rattle.board_column_read.specs.Made.{recordMade}
 use borrow.Author.Needs.{needs}
-use Rattle.board_column.proofs.record_of.Statement.{statement}
-use Rattle.board_column.proofs.record_of.Tie as tie
+use Rattle.board_column_read.proofs.record_of.Statement.{statement}
+use Rattle.board_column_read.proofs.record_of.Tie as tie
 
 info-requires : tie.Need-info-requires
 info-requires c κs = search needs

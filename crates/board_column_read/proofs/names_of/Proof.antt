@@ -1,7 +1,7 @@
--- `board_column::names_of` meets its contract: each name's start and units. Assumes nothing.
+-- `board_column_read::names_of` meets its contract: each name's start and units. Assumes nothing.
 use borrow.Author.Needs.{needs}
-use Rattle.board_column.proofs.names_of.Statement.{statement}
-use Rattle.board_column.proofs.names_of.Tie as tie
+use Rattle.board_column_read.proofs.names_of.Statement.{statement}
+use Rattle.board_column_read.proofs.names_of.Tie as tie
 
 enum-told : tie.Need-enum-told
 enum-told c = search needs

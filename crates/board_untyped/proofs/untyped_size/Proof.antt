@@ -1,14 +1,14 @@
--- `board_value::untyped_size` meets its contract: numbers that are a value, and its size. Assumes nothing.
+-- `board_untyped::untyped_size` meets its contract: numbers that are a value, and its size. Assumes nothing.
 use mathlib.Core.Path.{_≡_, sym, ap, _∙_}
 use mathlib.Core.Option.{none}
 use denote.Ref.{now}
 use Rattle.packed_value.specs.Numbers.{noValue}
 use Rattle.packed_value.specs.Made.{judgedTold}
 use Rattle.board_answer.proofs.Laws.{size-told, size-refused}
-use Rattle.board_value.proofs.Laws.{untyped-is, untyped-not}
+use Rattle.board_untyped.proofs.Laws.{untyped-is, untyped-not}
 use borrow.Author.Needs.{needs}
-use Rattle.board_value.proofs.untyped_size.Statement.{statement}
-use Rattle.board_value.proofs.untyped_size.Tie as tie
+use Rattle.board_untyped.proofs.untyped_size.Statement.{statement}
+use Rattle.board_untyped.proofs.untyped_size.Tie as tie
 
 judge-value-requires : tie.Need-judge-value-requires
 judge-value-requires c κs = search needs

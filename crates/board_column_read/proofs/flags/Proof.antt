@@ -1,7 +1,7 @@
--- `board_column::flags` meets its contract: bit 0 where there is a collation. Assumes nothing.
+-- `board_column_read::flags` meets its contract: bit 0 where there is a collation. Assumes nothing.
 use borrow.Author.Needs.{needs}
-use Rattle.board_column.proofs.flags.Statement.{statement}
-use Rattle.board_column.proofs.flags.Tie as tie
+use Rattle.board_column_read.proofs.flags.Statement.{statement}
+use Rattle.board_column_read.proofs.flags.Tie as tie
 
 schema-flag-requires : tie.Need-schema-flag-requires
 schema-flag-requires c κs = search needs

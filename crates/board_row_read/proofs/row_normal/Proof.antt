@@ -1,13 +1,13 @@
--- `board_row::row_normal` meets its contract: what the layer below wrote, as two numbers, and where the row ends. Assumes nothing.
+-- `board_row_read::row_normal` meets its contract: what the layer below wrote, as two numbers, and where the row ends. Assumes nothing.
 use mathlib.Core.Path.{refl, sym, ap, _∙_}
 use denote.Ref.{now}
 use lib.ListN.{length}
 use Rattle.normal_step.specs.Told.{normalTold}
-use Rattle.board_row.specs.Plain.{normalAt}
-use Rattle.board_row.proofs.Laws.{leaves}
+use Rattle.board_row_read.specs.Plain.{normalAt}
+use Rattle.board_row_read.proofs.Laws.{leaves}
 use borrow.Author.Needs.{needs}
-use Rattle.board_row.proofs.row_normal.Statement.{statement}
-use Rattle.board_row.proofs.row_normal.Tie as tie
+use Rattle.board_row_read.proofs.row_normal.Statement.{statement}
+use Rattle.board_row_read.proofs.row_normal.Tie as tie
 
 normal-packed-requires : tie.Need-normal-packed-requires
 normal-packed-requires c κs = search needs
