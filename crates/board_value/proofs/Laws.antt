@@ -3,10 +3,9 @@
 use mathlib.Core.Path.{_≡_, sym, ap, _∙_}
 use mathlib.Core.List.{List, []}
 use mathlib.Core.Option.{none, some}
-use Prim.Native.Nat.{ℕ, zero-le}
-use lib.ListN.{length, getD}
-use borrow.Author.Tests.{le-ltb}
-use Rattle.format.specs.Answer.{Refusal, refuses, Read, mapRead, inside, part}
+use Prim.Native.Nat.{ℕ}
+use lib.ListN.{getD}
+use Rattle.format.specs.Answer.{Refusal, refuses, Read, mapRead}
 use Rattle.format.specs.Descriptor as D
 use Rattle.format.specs.Value.{writeValue}
 use Rattle.format.specs.Found.{Found}
@@ -17,7 +16,7 @@ use Rattle.value_kind.specs.Told.{valueTold}
 use Rattle.value_read.specs.Told.{foundOut, roomOut}
 use Rattle.packed.specs.Packed.{columnOf, noNames}
 use Rattle.packed.specs.Made.{columnMade, noName}
-use Rattle.packed.proofs.Told.{names, column-told}
+use Rattle.packed.proofs.Told.{plain-told}
 use Rattle.packed_value.specs.Numbers.{noValue}
 use Rattle.packed_value.specs.Made.{givenMade}
 use Rattle.packed_value.proofs.Told.{value-told}
@@ -26,15 +25,8 @@ use Rattle.board_value.specs.Plain.{valueGiven, valueAt, roomAt}
 
 -- ---- a record without names stands for its column, whatever the buffer
 
-nothing : (s : List ℕ) → part s 0 0 ≡ inside []
-unfolding part
-nothing s = rw (le-ltb (length s) 0 zero-le)
-
-no-names : (s : List ℕ) → names s [] noName noName noName ≡ noNames
-no-names s = rw (nothing s)
-
 column-is : (s r : List ℕ) (c : Column) → c ≡ columnMade r noName noName noName → columnTold s c ≡ columnOf r noNames
-column-is s r c e = ap (columnTold s) e ∙ (column-told s r noName noName noName ∙ ap (columnOf r) (no-names s))
+column-is s r c e = ap (columnTold s) e ∙ plain-told s r
 
 -- ---- written
 

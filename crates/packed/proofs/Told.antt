@@ -54,7 +54,7 @@ module _ (s r : List ℕ) (a b c : Name) where
       go true = typed (D.typeOf (getD r 0 0))
       go false = refl
 
--- a table's columns, whatever the buffer: an empty name stands in every one
+-- a record of a table, and all of them, whatever the buffer: an empty name stands in every one
 nothing : (s : List ℕ) → part s 0 0 ≡ inside []
 unfolding part
 nothing s = rw (le-ltb (length s) 0 zero-le)
@@ -62,7 +62,10 @@ nothing s = rw (le-ltb (length s) 0 zero-le)
 no-names : (s : List ℕ) → names s [] noName noName noName ≡ noNames
 no-names s = rw (nothing s)
 
+pub plain-told : (s r : List ℕ) → columnTold s (columnMade r noName noName noName) ≡ columnOf r noNames
+plain-told s r = column-told s r noName noName noName ∙ ap (columnOf r) (no-names s)
+
 pub table-told : (s t : List ℕ) → columnsTold s (tableMade t) ≡ tableColumns t
 table-told s t =
     map-each 16 (λ r. columnMade r noName noName noName) (columnTold s) (λ r. columnOf r noNames)
-    (λ r. column-told s r noName noName noName ∙ ap (columnOf r) (no-names s)) t
+    (plain-told s) t
