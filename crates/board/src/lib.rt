@@ -4,15 +4,23 @@
 // library's answer into the struct.
 ghost use mathlib.Core.Path.{_≡_};
 ghost use lib.ListN.{length};
-ghost use Rattle.format.specs.Answer.{gives, andThen, fitted, wrote, roomAfter};
+ghost use Rattle.format.specs.Answer.{gives, andThen, mapRead, readAt, fitted, wrote, roomAfter};
 ghost use Rattle.format.specs.Header.{writeHeader};
 ghost use Rattle.format.specs.Prelogin.{writePrelogin};
 ghost use Rattle.format.specs.Guid.{guidOrder};
+ghost use Rattle.format.specs.Descriptor.{readColumn};
 ghost use Rattle.format.specs.Text.{textIn, textOut};
+ghost use Rattle.packed_slot.specs.Slots.{slotOf};
 ghost use Rattle.board_answer.specs.Told.{counted, place, after};
 ghost use Rattle.board_packet.specs.Plain.{headerAt, headerGiven, preloginGiven};
 ghost use Rattle.board_number.specs.Plain.{numberAt, guidAt};
 ghost use Rattle.board_walk.specs.Plain.{walkAt, walkStep, heads, walkAfter};
+ghost use Rattle.board_column_read.specs.Plain.{recordAt, spansAt};
+ghost use Rattle.board_column.specs.Plain.{columnGiven};
+ghost use Rattle.board_value.specs.Plain.{valueGiven, valueAt, roomAt};
+ghost use Rattle.board_untyped.specs.Plain.{untypedGiven};
+ghost use Rattle.board_row.specs.Plain.{rowGiven};
+ghost use Rattle.board_row_read.specs.Plain.{needsAt, rowAt, rowRoom, rowValues, normalAt, bytes, normalRoom, ends};
 use board_answer::Counted;
 
 // The header at a place of the bytes: type, status, length, SPID, id, window.
@@ -120,6 +128,180 @@ pub extern "C" fn morelquilt_walk_step(bytes: &[u8], allowed: u64, walk: &mut [u
     ensures room { λ _. ⌜ now (walk .exit) ≡ walkAfter (walkStep allowed (now (bytes .entry)) (now (walk .entry))) (now (walk .entry)) ⌝ }
 {
     board_walk::walk_step(bytes, allowed, walk)
+}
+
+// The descriptor at a place of the bytes: its record, and where its names stand.
+#[no_mangle]
+pub extern "C" fn morelquilt_column_read(
+    bytes: &[u8],
+    at: usize,
+    index: u16,
+    column: &mut [u8; 16],
+    names: &mut [u64; 6],
+) -> Counted
+    ensures answer { λ r. ⌜ r ≡ counted (place (readAt readColumn (now (bytes .entry)) at)) ⌝ }
+    ensures column { λ _. ⌜ now (column .exit) ≡ after (recordAt index (now (bytes .entry)) at) (now (column .entry)) ⌝ }
+    ensures names { λ _. ⌜ now (names .exit) ≡ after (spansAt (now (bytes .entry)) at) (now (names .entry)) ⌝ }
+{
+    board_column_read::column_read(bytes, at, index, column, names)
+}
+
+// How many bytes the descriptor takes.
+#[no_mangle]
+pub extern "C" fn morelquilt_column_size(
+    column: &[u8; 16],
+    names: &[u64; 6],
+    buffer: &[u8],
+) -> Counted
+    ensures { λ r. ⌜ r ≡ counted (wrote (columnGiven (now (column .entry)) (now (names .entry)) (now (buffer .entry)))) ⌝ }
+{
+    board_column::column_size(column, names, buffer)
+}
+
+// The descriptor, at the front of the room.
+#[no_mangle]
+pub extern "C" fn morelquilt_column_write(
+    column: &[u8; 16],
+    names: &[u64; 6],
+    buffer: &[u8],
+    out: &mut [u8],
+) -> Counted
+    ensures answer { λ r. ⌜ r ≡ counted (wrote (fitted (columnGiven (now (column .entry)) (now (names .entry)) (now (buffer .entry))) (length (now (out .entry))))) ⌝ }
+    ensures room { λ _. ⌜ now (out .exit) ≡ roomAfter (fitted (columnGiven (now (column .entry)) (now (names .entry)) (now (buffer .entry))) (length (now (out .entry)))) (now (out .entry)) ⌝ }
+{
+    board_column::column_write(column, names, buffer, out)
+}
+
+// How many bytes the value takes under the column.
+#[no_mangle]
+pub extern "C" fn morelquilt_value_size(
+    column: &[u8; 16],
+    value: &[u64; 3],
+    buffer: &[u8],
+) -> Counted
+    ensures { λ r. ⌜ r ≡ counted (wrote (valueGiven (now (column .entry)) (now (value .entry)) (now (buffer .entry)))) ⌝ }
+{
+    board_value::value_size(column, value, buffer)
+}
+
+// The value under the column, at the front of the room.
+#[no_mangle]
+pub extern "C" fn morelquilt_value_write(
+    column: &[u8; 16],
+    value: &[u64; 3],
+    buffer: &[u8],
+    out: &mut [u8],
+) -> Counted
+    ensures answer { λ r. ⌜ r ≡ counted (wrote (fitted (valueGiven (now (column .entry)) (now (value .entry)) (now (buffer .entry))) (length (now (out .entry))))) ⌝ }
+    ensures room { λ _. ⌜ now (out .exit) ≡ roomAfter (fitted (valueGiven (now (column .entry)) (now (value .entry)) (now (buffer .entry))) (length (now (out .entry)))) (now (out .entry)) ⌝ }
+{
+    board_value::value_write(column, value, buffer, out)
+}
+
+// The value at a place of the row; PLP content is joined at the front of the room.
+#[no_mangle]
+pub extern "C" fn morelquilt_value_read(
+    column: &[u8; 16],
+    row: &[u8],
+    at: usize,
+    room: &mut [u8],
+    value: &mut [u64; 3],
+) -> Counted
+    ensures answer { λ r. ⌜ r ≡ counted (place (valueAt (now (column .entry)) (now (row .entry)) at (now (room .entry)))) ⌝ }
+    ensures room { λ _. ⌜ now (room .exit) ≡ roomAt (now (column .entry)) (now (row .entry)) at (now (room .entry)) ⌝ }
+    ensures value { λ _. ⌜ now (value .exit) ≡ after (mapRead slotOf (valueAt (now (column .entry)) (now (row .entry)) at (now (room .entry)))) (now (value .entry)) ⌝ }
+{
+    board_value::value_read(column, row, at, room, value)
+}
+
+// How many bytes the value takes with its own descriptor in front.
+#[no_mangle]
+pub extern "C" fn morelquilt_untyped_size(value: &[u64; 3], buffer: &[u8]) -> Counted
+    ensures { λ r. ⌜ r ≡ counted (wrote (untypedGiven (now (value .entry)) (now (buffer .entry)))) ⌝ }
+{
+    board_untyped::untyped_size(value, buffer)
+}
+
+// The value with its own descriptor in front, at the front of the room.
+#[no_mangle]
+pub extern "C" fn morelquilt_untyped_write(
+    value: &[u64; 3],
+    buffer: &[u8],
+    out: &mut [u8],
+) -> Counted
+    ensures answer { λ r. ⌜ r ≡ counted (wrote (fitted (untypedGiven (now (value .entry)) (now (buffer .entry))) (length (now (out .entry))))) ⌝ }
+    ensures room { λ _. ⌜ now (out .exit) ≡ roomAfter (fitted (untypedGiven (now (value .entry)) (now (buffer .entry))) (length (now (out .entry)))) (now (out .entry)) ⌝ }
+{
+    board_untyped::untyped_write(value, buffer, out)
+}
+
+// How many bytes the row takes.
+#[no_mangle]
+pub extern "C" fn morelquilt_row_size(table: &[u8], values: &[u64], buffer: &[u8]) -> Counted
+    ensures { λ r. ⌜ r ≡ counted (wrote (rowGiven (now (table .entry)) (now (values .entry)) (now (buffer .entry)))) ⌝ }
+{
+    board_row::row_size(table, values, buffer)
+}
+
+// The row, at the front of the room.
+#[no_mangle]
+pub extern "C" fn morelquilt_row_write(
+    table: &[u8],
+    values: &[u64],
+    buffer: &[u8],
+    out: &mut [u8],
+) -> Counted
+    ensures answer { λ r. ⌜ r ≡ counted (wrote (fitted (rowGiven (now (table .entry)) (now (values .entry)) (now (buffer .entry))) (length (now (out .entry))))) ⌝ }
+    ensures room { λ _. ⌜ now (out .exit) ≡ roomAfter (fitted (rowGiven (now (table .entry)) (now (values .entry)) (now (buffer .entry))) (length (now (out .entry)))) (now (out .entry)) ⌝ }
+{
+    board_row::row_write(table, values, buffer, out)
+}
+
+// What the row at a place needs: the bytes of room that reading takes, the bytes of the normal form.
+#[no_mangle]
+pub extern "C" fn morelquilt_row_needs(
+    table: &[u8],
+    row: &[u8],
+    at: usize,
+    needs: &mut [u64; 2],
+) -> Counted
+    ensures answer { λ r. ⌜ r ≡ counted (place (needsAt (now (table .entry)) (now (row .entry)) at)) ⌝ }
+    ensures room { λ _. ⌜ now (needs .exit) ≡ after (needsAt (now (table .entry)) (now (row .entry)) at) (now (needs .entry)) ⌝ }
+{
+    board_row_read::row_needs(table, row, at, needs)
+}
+
+// The row at a place: three numbers for each value, at the front of the list; PLP content is joined
+// in the room.
+#[no_mangle]
+pub extern "C" fn morelquilt_row_read(
+    table: &[u8],
+    row: &[u8],
+    at: usize,
+    room: &mut [u8],
+    values: &mut [u64],
+) -> Counted
+    ensures answer { λ r. ⌜ r ≡ counted (place (rowAt (now (table .entry)) (now (row .entry)) at (length (now (room .entry))) (length (now (values .entry))))) ⌝ }
+    ensures room { λ _. ⌜ now (room .exit) ≡ rowRoom (now (table .entry)) (rowAt (now (table .entry)) (now (row .entry)) at (length (now (room .entry))) (length (now (values .entry)))) (now (room .entry)) ⌝ }
+    ensures values { λ _. ⌜ now (values .exit) ≡ rowValues (now (table .entry)) (now (row .entry)) at (rowAt (now (table .entry)) (now (row .entry)) at (length (now (room .entry))) (length (now (values .entry)))) (now (values .entry)) ⌝ }
+{
+    board_row_read::row_read(table, row, at, room, values)
+}
+
+// The normal form of the row at a place, at the front of the room, and where the row ends.
+#[no_mangle]
+pub extern "C" fn morelquilt_row_normal(
+    table: &[u8],
+    row: &[u8],
+    at: usize,
+    out: &mut [u8],
+    next: &mut u64,
+) -> Counted
+    ensures answer { λ r. ⌜ r ≡ counted (bytes (normalAt (now (table .entry)) (now (row .entry)) at (length (now (out .entry))))) ⌝ }
+    ensures room { λ _. ⌜ now (out .exit) ≡ normalRoom (normalAt (now (table .entry)) (now (row .entry)) at (length (now (out .entry)))) (now (out .entry)) ⌝ }
+    ensures next { λ _. ⌜ now (next .exit) ≡ ends (normalAt (now (table .entry)) (now (row .entry)) at (length (now (out .entry)))) (now (next .entry)) ⌝ }
+{
+    board_row_read::row_normal(table, row, at, out, next)
 }
 
 // How many bytes UTF-8 takes in UTF-16LE.

@@ -36,3 +36,14 @@ writes-told r told new a b out c e l = let s = subst (λ (x : Answer (List ℕ))
 pub writes-refused : (r : Counted) (e : Refusal) (a : Answer (List ℕ)) (out : List ℕ) → r ≡ counted (refuses e) → refuses e ≡ a → Writes r out a out
 unfolding wrote
 writes-refused r e a out c h = let s = refused-before a out e (ap wrote h) in (c ∙ ap counted (s .0), s .1)
+
+-- ---- a size: its answer
+
+-- of the size that the layer below told
+pub size-told : (r : Counted) (told : Answer ℕ) (a b : Answer (List ℕ)) → r ≡ counted told → told ≡ wrote a → a ≡ b → r ≡ counted (wrote b)
+size-told r told a b c t e = c ∙ ap counted (t ∙ ap wrote e)
+
+-- of a refusal that comes before it
+pub size-refused : (r : Counted) (e : Refusal) (a : Answer (List ℕ)) → r ≡ counted (refuses e) → refuses e ≡ a → r ≡ counted (wrote a)
+unfolding wrote
+size-refused r e a c h = c ∙ ap (λ (x : Answer (List ℕ)). counted (wrote x)) h

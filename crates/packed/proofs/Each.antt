@@ -1,8 +1,8 @@
 -- A list cut into parts: how many there are, what the part at a place stands for, and that what they stand for may be turned into something else one by one.
 -- Assumes nothing.
 use mathlib.Core.Path.{_≡_, refl, sym, ap, _∙_}
-use mathlib.Core.List.{List, [], _∷_, map}
-use Prim.Native.Nat.{ℕ, zero, suc, _+_, _*_, _-_, _/_, _<_, _≤_}
+use mathlib.Core.List.{List, map}
+use Prim.Native.Nat.{ℕ, zero, suc, _+_, _*_, _-_, _<_, _≤_}
 use native.Mathlib.Omega.{arith}
 use native.Mathlib.Nat.{not-suc-le-zero, le-of-suc-le-suc, mul-zero, mul-suc, add-comm, mul-comm, suc-mul, mul-le-mul-right, div-mul-le-self}
 use lib.ListN.{length, getD, drop}

@@ -1,4 +1,5 @@
 pub mod Each
 pub mod Places
 pub mod Told
+pub mod Packing
 pub mod Table

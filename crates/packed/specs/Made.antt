@@ -1,7 +1,6 @@
 -- The column of a record, as the code makes it: in the declared types, of which the laws of rows speak. proofs/Told.antt says what it tells.
 use Prim.Native.Nat.{ℕ}
 use mathlib.Core.List.{List}
-use mathlib.Core.Option.{Option, none, some}
 use lib.ListN.{getD, take, drop}
 use Rattle.lists.specs.Pick.{pick}
 use Rattle.format.specs.Answer.{Answer, gives, refuses}

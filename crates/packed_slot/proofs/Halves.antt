@@ -1,7 +1,7 @@
 -- A GUID's halves in text order are its two numbers.
 -- Assumes nothing.
 use mathlib.Core.Path.{_≡_, sym, ap, _∙_}
-use mathlib.Core.List.{List, [], _∷_}
+use mathlib.Core.List.{[], _∷_}
 use Prim.Native.Nat.{ℕ, _^_, _<_}
 use lib.ListN.{take, drop}
 use Rattle.format.specs.Number.{highNat, highBytes}

@@ -2,16 +2,13 @@
 -- Why it holds: the row was judged, so that each value stands at its place and no count of copied bytes is too long; each turn puts three numbers behind those that
 -- stand, and those are the next three.
 -- Assumes nothing.
-use mathlib.Core.Path.{_≡_, refl, sym, ap, subst, _∙_}
-use mathlib.Core.Bool.{Bool, true, false}
+use mathlib.Core.Path.{_≡_, refl, sym, ap, _∙_}
 use mathlib.Core.List.{List, [], _∷_, _++_}
-use Prim.Native.Nat.{ℕ, zero, suc, _+_, _*_, _-_, _<_, _≤_, zero-le}
-use native.Mathlib.Nat.{mul-suc, mul-zero}
+use Prim.Native.Nat.{ℕ, _+_, _*_, _-_, _<_, _≤_, zero-le}
 use native.Mathlib.Omega.{arith}
-use lib.Dec.{ltb}
 use lib.ListN.{length, getD, drop, length-append, length-map}
 use borrow.Author.Tests.{le-ltb}
-use Rattle.lists.specs.Put.{putAt, front}
+use Rattle.lists.specs.Put.{front}
 use Rattle.lists.proofs.Front.{front-none, front-all, grown}
 use Rattle.format.specs.Answer.{Read, took, stops, readAt, fittedRead}
 use Rattle.format.specs.Descriptor as D
@@ -25,7 +22,7 @@ use Rattle.column_type.specs.declared.Column.{Column}
 use Rattle.column_type.specs.Told.{columnTold}
 use Rattle.columns.specs.None.{noColumn}
 use Rattle.columns.specs.Told.{columnsTold}
-use Rattle.columns.proofs.Taken.{left-at, none-left}
+use Rattle.columns.proofs.Taken.{left-at}
 use Rattle.row_place.specs.declared.RowPlace.{RowPlace}
 use Rattle.row_place.specs.Told.{placedOf, mostRoom, placedAt}
 use Rattle.packed_slot.specs.Slots.{scalarSlot, contentSlot, slotOf, slotsOf}

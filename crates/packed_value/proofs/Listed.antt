@@ -4,7 +4,7 @@ use mathlib.Core.Path.{_≡_, refl, sym, ap, subst, _∙_}
 use mathlib.Core.Bool.{Bool, true, false}
 use mathlib.Core.List.{List, [], _∷_}
 use mathlib.Core.Option.{Option, none, some}
-use Prim.Native.Nat.{ℕ, zero, suc, _+_, _*_, _-_, _<_, _≤_}
+use Prim.Native.Nat.{ℕ, zero, suc, _+_, _*_, _<_, _≤_}
 use native.Mathlib.Nat.{not-suc-le-zero, le-of-suc-le-suc}
 use native.Mathlib.Omega.{arith}
 use lib.Dec.{ltb}
@@ -12,12 +12,12 @@ use lib.ListN.{length, getD, drop, length-drop}
 use borrow.Author.Tests.{ltb-false}
 use Rattle.lists.specs.Pick.{pick}
 use Rattle.lists.proofs.Split.{clash}
-use Rattle.format.specs.Answer.{Refusal, kind, rule}
+use Rattle.format.specs.Answer.{Refusal, rule}
 use Rattle.columns.specs.None as None
 use Rattle.columns.proofs.Taken.{left-at, none-left}
 use Rattle.packed.specs.Each.{partsOf, each}
 use Rattle.packed.proofs.Each.{length-each, each-at, part-inside}
-use Rattle.packed_value.specs.Numbers.{isValue, noValue, firstOf, noValues}
+use Rattle.packed_value.specs.Numbers.{noValue, firstOf, noValues}
 use Rattle.packed_value.specs.Made.{givenMade, givensMade}
 
 -- none refused, and one that is

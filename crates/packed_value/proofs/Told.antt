@@ -1,6 +1,6 @@
 -- What a value that was made of three numbers tells: the value that the numbers are.
 -- Assumes nothing.
-use mathlib.Core.Path.{_≡_, refl, sym, ap, _∙_}
+use mathlib.Core.Path.{_≡_, refl, ap, _∙_}
 use mathlib.Core.Bool.{Bool, true, false}
 use mathlib.Core.List.{List}
 use Prim.Native.Nat.{ℕ, _%_, _^_, _<_}
@@ -10,7 +10,6 @@ use lib.ListN.{getD}
 use Rattle.lists.specs.Pick.{pick}
 use Rattle.format.specs.Row.{writeRow}
 use Rattle.format.specs.Scalar as S
-use Rattle.format.specs.Value as Values
 use Rattle.bits.specs.declared.float.Float32.{Float32}
 use Rattle.bits.specs.declared.float.Float32.the-variants as F32
 use Rattle.bits.specs.declared.float.Float64.{Float64}

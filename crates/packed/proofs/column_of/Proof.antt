@@ -1,20 +1,12 @@
 -- `packed::column_of` meets its contract. Assumes nothing.
 use mathlib.Core.Path.{sym, ap, _∙_}
-use Rattle.column_type.specs.Told.{typeTold, typeReadTold}
-use Rattle.column_type.proofs.Decided.{type-undoes}
-use Rattle.packed.specs.Made.{columnMade}
+use Rattle.column_type.specs.Told.{typeReadTold}
 use Rattle.packed.proofs.Places.{short}
 use Rattle.packed.proofs.Places.{made-broken, made-unknown, made-typed}
 use Rattle.format.specs.Answer.{unknown}
 use borrow.Author.Needs.{needs}
 use Rattle.packed.proofs.column_of.Statement.{statement}
 use Rattle.packed.proofs.column_of.Tie as tie
-use Rattle.packed.proofs.column_of.Reads as reads
-use Rattle.packed.proofs.column_of.Lts as lts
-use Rattle.column_byte.proofs.type_of.Reads as type-of-reads
-use Rattle.packed.proofs.inner.broken.Reads as broken-reads
-use Rattle.packed.proofs.inner.fields_of.Reads as fields-of-reads
-use Rattle.packed.proofs.inner.keeps_places.Reads as keeps-places-reads
 
 broken-requires : tie.Need-broken-requires
 broken-requires c κs = search needs

@@ -1,8 +1,8 @@
 -- `packed_judge::judge_packed` meets its contract: at each turn what is left of the table's columns needs, behind the row so far, what the whole row needs
 -- (`Judged` of judge_step, over the columns that the table's records stand for). Assumes nothing.
-use mathlib.Core.Path.{_≡_, refl, sym, ap, subst, _∙_}
+use mathlib.Core.Path.{_≡_, sym, ap, subst, _∙_}
 use mathlib.Core.List.{List, []}
-use Prim.Native.Nat.{ℕ, _≤_, _<_, _+_, _-_, zero-le}
+use Prim.Native.Nat.{ℕ, _≤_, _<_, _-_, zero-le}
 use native.Mathlib.Nat.{le-antisymm}
 use native.Mathlib.Omega.{arith}
 use lib.ListN.{length}

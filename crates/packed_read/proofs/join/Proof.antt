@@ -18,7 +18,6 @@ use Rattle.judge_step.specs.Told.{needsOf, rowJudgedTold}
 use Rattle.read_step.specs.Told.{Place, firstPlace, placeTold}
 use Rattle.read_step.specs.Steps.{turnsOf}
 use Rattle.read_step.proofs.Joining.{answer, Joined, joining-begins, joining-inside, joining-asks, joining-next, joining-ends}
-use Rattle.packed.specs.Packed.{tableColumns}
 use Rattle.packed.specs.Made.{tableMade}
 use Rattle.packed.proofs.Table.{columns-counted, column-there, column-made}
 use Rattle.packed.proofs.Told.{table-told}
@@ -136,8 +135,8 @@ loop-again c =
       omega (arith, taken .before .loop-test .taken),
       joined .join-on .kept .0 ∙ turn .loop .inv .1,
       joining-next (columns f) (a .s .now) (from f) (a .out .now) (rowJudgedTold (a .fits)) (judged f) (turn .loop .i) (placeTold (turn .loop .place))
-      (turn .loop .out) (less (taken .before)) (turn .loop .inv .2) (taken .column-at .result) (column-is taken) (placeTold (joined .join-on .result))
-      (joined .join-on .last .0) (joined .join-on .ensures),
+          (turn .loop .out) (less (taken .before)) (turn .loop .inv .2) (taken .column-at .result) (column-is taken) (placeTold (joined .join-on .result))
+          (joined .join-on .last .0) (joined .join-on .ensures),
     )
 
 same-length : tie.Need-same-length Inv-loop μ-loop

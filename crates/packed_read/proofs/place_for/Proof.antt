@@ -4,8 +4,6 @@ use borrow.Author.Tests.{lt-ltb, le-ltb}
 use borrow.Author.Needs.{needs}
 use Rattle.packed_read.proofs.place_for.Statement.{statement}
 use Rattle.packed_read.proofs.place_for.Tie as tie
-use Rattle.packed_read.proofs.place_for.Reads as reads
-use Rattle.packed_read.proofs.place_for.Lts as lts
 
 enum-known-judged : tie.Need-enum-known-judged
 enum-known-judged c = search needs

@@ -4,9 +4,9 @@ use mathlib.Core.List.{List, []}
 use Prim.Native.Nat.{ℕ}
 use native.Mathlib.Omega.{arith}
 use lib.ListN.{length, length-map}
-use Rattle.format.specs.Answer.{Read, mapRead, readAt, fittedRead}
+use Rattle.format.specs.Answer.{Read, mapRead, readAt}
 use Rattle.format.specs.Descriptor as D
-use Rattle.format.specs.Row.{readRow, copiedOutRow}
+use Rattle.format.specs.Row.{readRow}
 use Rattle.column_type.specs.Told.{columnTold}
 use Rattle.value_weigh.specs.Told.{Needs}
 use Rattle.judge_step.specs.Told.{needsOf, rowJudgedTold}

@@ -1,6 +1,6 @@
 -- `packed_size::size_judged` meets its contract: at each turn the sizes so far, with what is left, are the row's size (`Sized` of row_step, over the columns and
 -- the values that the numbers stand for). Assumes nothing.
-use mathlib.Core.Path.{_≡_, refl, sym, ap, subst, _∙_}
+use mathlib.Core.Path.{_≡_, sym, ap, subst, _∙_}
 use mathlib.Core.List.{List}
 use Prim.Native.Nat.{ℕ, _≤_, _<_, _-_, zero-le}
 use native.Mathlib.Nat.{le-antisymm}

@@ -1,15 +1,10 @@
 -- `packed_size::size_packed` meets its contract: the values are judged before anything else. Assumes nothing.
 use mathlib.Core.Path.{sym, ap, _∙_}
-use Rattle.format.specs.Answer.{Answer, wrote}
-use Rattle.packed_value.specs.Numbers.{unless}
+use Rattle.format.specs.Answer.{wrote}
 use Rattle.packed_value.specs.Made.{judgedTold}
 use borrow.Author.Needs.{needs}
 use Rattle.packed_size.proofs.size_packed.Statement.{statement}
 use Rattle.packed_size.proofs.size_packed.Tie as tie
-use Rattle.packed_size.proofs.size_packed.Reads as reads
-use Rattle.packed_size.proofs.size_packed.Lts as lts
-use Rattle.packed_size.proofs.size_judged.Reads as size-judged-reads
-use Rattle.packed_value.proofs.judge_values.Reads as judge-values-reads
 
 judge-values-requires : tie.Need-judge-values-requires
 judge-values-requires c κs = search needs

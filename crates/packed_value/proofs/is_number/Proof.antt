@@ -4,10 +4,6 @@ use Rattle.packed_value.specs.Numbers.{isNumber}
 use borrow.Author.Needs.{needs}
 use Rattle.packed_value.proofs.is_number.Statement.{statement}
 use Rattle.packed_value.proofs.is_number.Tie as tie
-use Rattle.packed_value.proofs.is_number.Reads as reads
-use Rattle.packed_value.proofs.is_number.Lts as lts
-use Rattle.packed_value.proofs.signed_four.Reads as signed-four-reads
-use Rattle.packed_value.proofs.signed_two.Reads as signed-two-reads
 
 signed-two-requires : tie.Need-signed-two-requires
 signed-two-requires c κs = search needs

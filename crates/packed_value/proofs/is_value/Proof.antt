@@ -5,9 +5,6 @@ use Rattle.packed_value.specs.Numbers.{isValue}
 use borrow.Author.Needs.{needs}
 use Rattle.packed_value.proofs.is_value.Statement.{statement}
 use Rattle.packed_value.proofs.is_value.Tie as tie
-use Rattle.packed_value.proofs.is_value.Reads as reads
-use Rattle.packed_value.proofs.is_value.Lts as lts
-use Rattle.packed_value.proofs.is_number.Reads as is-number-reads
 
 returns : tie.Need-returns
 unfolding isValue

@@ -5,9 +5,6 @@ use lib.ListN.{length}
 use borrow.Author.Needs.{needs}
 use Rattle.packed_value.proofs.judge_value.Statement.{statement}
 use Rattle.packed_value.proofs.judge_value.Tie as tie
-use Rattle.packed_value.proofs.judge_value.Reads as reads
-use Rattle.packed_value.proofs.judge_value.Lts as lts
-use Rattle.packed_value.proofs.is_value.Reads as is-value-reads
 
 returns : tie.Need-returns
 returns c =

@@ -8,8 +8,6 @@ use Rattle.packed_value.proofs.Signed.{below-half, above-half}
 use borrow.Author.Needs.{needs}
 use Rattle.packed_value.proofs.signed_two.Statement.{statement}
 use Rattle.packed_value.proofs.signed_two.Tie as tie
-use Rattle.packed_value.proofs.signed_two.Reads as reads
-use Rattle.packed_value.proofs.signed_two.Lts as lts
 
 returns : tie.Need-returns
 returns c =

@@ -8,7 +8,6 @@ use native.Mathlib.Omega.{arith}
 use lib.ListN.{length, getD}
 use borrow.Author.Needs.{needs}
 use Rattle.format.specs.Answer.{Answer, fitted, wrote, roomAfter}
-use Rattle.wire.specs.Told.{wroteTold}
 use Rattle.column_type.specs.declared.Column.{Column}
 use Rattle.columns.specs.None.{noColumn, noValue}
 use Rattle.value_kind.specs.declared.Value.{Value}

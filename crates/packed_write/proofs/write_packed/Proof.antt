@@ -3,7 +3,7 @@ use mathlib.Core.Path.{_≡_, sym, ap, _∙_}
 use mathlib.Core.List.{List}
 use Prim.Native.Nat.{ℕ}
 use lib.ListN.{length}
-use Rattle.format.specs.Answer.{Answer, gives, fitted, wrote, roomAfter}
+use Rattle.format.specs.Answer.{Answer, fitted, wrote}
 use Rattle.format.specs.Row.{writeRow}
 use Rattle.wire.specs.Told.{wroteTold}
 use Rattle.row_step.specs.Steps.{fitIn}
@@ -14,11 +14,6 @@ use Rattle.packed_write.proofs.Judged.{judged-fine, room-kept}
 use borrow.Author.Needs.{needs}
 use Rattle.packed_write.proofs.write_packed.Statement.{statement}
 use Rattle.packed_write.proofs.write_packed.Tie as tie
-use Rattle.packed_write.proofs.write_packed.Reads as reads
-use Rattle.packed_write.proofs.write_packed.Lts as lts
-use Rattle.packed_size.proofs.size_packed.Reads as size-packed-reads
-use Rattle.packed_write.proofs.fill.Reads as fill-reads
-use Rattle.row_step.proofs.inner.fit_in.Reads as fit-in-reads
 
 size-packed-requires : tie.Need-size-packed-requires
 size-packed-requires c κs = search needs

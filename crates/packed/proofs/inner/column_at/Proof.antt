@@ -5,9 +5,6 @@ use Prim.Native.Nat.{_*_}
 use borrow.Author.Needs.{needs}
 use Rattle.packed.proofs.inner.column_at.Statement.{statement}
 use Rattle.packed.proofs.inner.column_at.Tie as tie
-use Rattle.packed.proofs.inner.column_at.Reads as reads
-use Rattle.packed.proofs.inner.column_at.Lts as lts
-use Rattle.packed.proofs.column_of.Reads as column-of-reads
 
 mul-at : tie.Need-mul-at
 mul-at c = search needs

@@ -2,8 +2,6 @@
 use borrow.Author.Needs.{needs}
 use Rattle.packed_slot.proofs.inner.content_slot.Statement.{statement}
 use Rattle.packed_slot.proofs.inner.content_slot.Tie as tie
-use Rattle.packed_slot.proofs.inner.content_slot.Reads as reads
-use Rattle.packed_slot.proofs.inner.content_slot.Lts as lts
 
 enum-known-p : tie.Need-enum-known-p
 enum-known-p c = search needs

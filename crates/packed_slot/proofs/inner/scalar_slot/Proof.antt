@@ -9,12 +9,6 @@ use Rattle.packed_slot.proofs.Halves.{halves}
 use borrow.Author.Needs.{needs}
 use Rattle.packed_slot.proofs.inner.scalar_slot.Statement.{statement}
 use Rattle.packed_slot.proofs.inner.scalar_slot.Tie as tie
-use Rattle.packed_slot.proofs.inner.scalar_slot.Reads as reads
-use Rattle.packed_slot.proofs.inner.scalar_slot.Lts as lts
-use Rattle.packed_slot.proofs.inner.one.Reads as one-reads
-use Rattle.packed_slot.proofs.inner.wide16.Reads as wide16-reads
-use Rattle.packed_slot.proofs.inner.wide32.Reads as wide32-reads
-use Rattle.value_kind.proofs.kinds.number_of.Reads as number-of-reads
 
 number-of-requires : tie.Need-number-of-requires
 number-of-requires c κs = search needs

@@ -2,11 +2,6 @@
 use borrow.Author.Needs.{needs}
 use Rattle.packed_slot.proofs.inner.slot_of.Statement.{statement}
 use Rattle.packed_slot.proofs.inner.slot_of.Tie as tie
-use Rattle.packed_slot.proofs.inner.slot_of.Reads as reads
-use Rattle.packed_slot.proofs.inner.slot_of.Lts as lts
-use Rattle.packed_slot.proofs.inner.content_slot.Reads as content-slot-reads
-use Rattle.packed_slot.proofs.inner.one.Reads as one-reads
-use Rattle.packed_slot.proofs.inner.scalar_slot.Reads as scalar-slot-reads
 
 enum-told : tie.Need-enum-told
 enum-told c = search needs

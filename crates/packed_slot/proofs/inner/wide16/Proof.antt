@@ -11,9 +11,6 @@ use Rattle.packed_value.proofs.Signed.{below-half, above-half}
 use borrow.Author.Needs.{needs}
 use Rattle.packed_slot.proofs.inner.wide16.Statement.{statement}
 use Rattle.packed_slot.proofs.inner.wide16.Tie as tie
-use Rattle.packed_slot.proofs.inner.wide16.Reads as reads
-use Rattle.packed_slot.proofs.inner.wide16.Lts as lts
-use Rattle.bits.proofs.signed.of_i16.Reads as of-i16-reads
 
 of-i16-requires : tie.Need-of-i16-requires
 of-i16-requires c κs = search needs

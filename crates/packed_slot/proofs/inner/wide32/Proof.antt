@@ -11,9 +11,6 @@ use Rattle.packed_value.proofs.Signed.{below-half, above-half}
 use borrow.Author.Needs.{needs}
 use Rattle.packed_slot.proofs.inner.wide32.Statement.{statement}
 use Rattle.packed_slot.proofs.inner.wide32.Tie as tie
-use Rattle.packed_slot.proofs.inner.wide32.Reads as reads
-use Rattle.packed_slot.proofs.inner.wide32.Lts as lts
-use Rattle.bits.proofs.signed.of_i32.Reads as of-i32-reads
 
 of-i32-requires : tie.Need-of-i32-requires
 of-i32-requires c κs = search needs

@@ -1,15 +1,9 @@
 -- `packed_slots::inner::put_value` meets its contract: a value that stands there is put down. Assumes nothing.
-use mathlib.Core.Path.{_≡_, refl, sym, ap, _∙_}
-use Rattle.row_place.specs.declared.RowValue.{RowValue}
-use Rattle.row_place.specs.Told.{rowValueTold, CanonicalPlaced}
+use mathlib.Core.Path.{refl, sym, ap, _∙_}
+use Rattle.row_place.specs.Told.{rowValueTold}
 use borrow.Author.Needs.{needs}
 use Rattle.packed_slots.proofs.inner.put_value.Statement.{statement}
 use Rattle.packed_slots.proofs.inner.put_value.Tie as tie
-use Rattle.packed_slots.proofs.inner.put_value.Reads as reads
-use Rattle.packed_slots.proofs.inner.put_value.Lts as lts
-use Rattle.packed_slot.proofs.inner.slot_of.Reads as slot-of-reads
-use Rattle.packed_slots.proofs.inner.store.Reads as store-reads
-use Rattle.row_place.proofs.RowPlace.value.Reads as value-reads
 
 value-requires : tie.Need-value-requires
 value-requires c κs = search needs

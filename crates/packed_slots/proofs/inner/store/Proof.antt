@@ -7,8 +7,6 @@ use Rattle.packed_slot.specs.Slots.{slotTold}
 use borrow.Author.Needs.{needs}
 use Rattle.packed_slots.proofs.inner.store.Statement.{statement}
 use Rattle.packed_slots.proofs.inner.store.Tie as tie
-use Rattle.packed_slots.proofs.inner.store.Reads as reads
-use Rattle.packed_slots.proofs.inner.store.Lts as lts
 
 mul-values : tie.Need-mul-values
 mul-values c = search needs

@@ -4,9 +4,6 @@ use Rattle.packed_value.specs.Made.{made32}
 use borrow.Author.Needs.{needs}
 use Rattle.packed_value.proofs.inner.float32.Statement.{statement}
 use Rattle.packed_value.proofs.inner.float32.Tie as tie
-use Rattle.packed_value.proofs.inner.float32.Reads as reads
-use Rattle.packed_value.proofs.inner.float32.Lts as lts
-use Rattle.bits.proofs.float.from_bits32.Reads as from-bits32-reads
 
 from-bits32-requires : tie.Need-from-bits32-requires
 from-bits32-requires c κs = search needs

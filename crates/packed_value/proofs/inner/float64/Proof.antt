@@ -4,9 +4,6 @@ use Rattle.packed_value.specs.Made.{made64}
 use borrow.Author.Needs.{needs}
 use Rattle.packed_value.proofs.inner.float64.Statement.{statement}
 use Rattle.packed_value.proofs.inner.float64.Tie as tie
-use Rattle.packed_value.proofs.inner.float64.Reads as reads
-use Rattle.packed_value.proofs.inner.float64.Lts as lts
-use Rattle.bits.proofs.float.from_bits64.Reads as from-bits64-reads
 
 from-bits64-requires : tie.Need-from-bits64-requires
 from-bits64-requires c κs = search needs

@@ -6,9 +6,6 @@ use lib.Seq.{getD-drop}
 use borrow.Author.Needs.{needs}
 use Rattle.packed_value.proofs.inner.value_at.Statement.{statement}
 use Rattle.packed_value.proofs.inner.value_at.Tie as tie
-use Rattle.packed_value.proofs.inner.value_at.Reads as reads
-use Rattle.packed_value.proofs.inner.value_at.Lts as lts
-use Rattle.packed_value.proofs.inner.value_of.Reads as value-of-reads
 
 mul-at : tie.Need-mul-at
 mul-at c = search needs

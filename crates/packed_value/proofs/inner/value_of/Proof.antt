@@ -9,13 +9,6 @@ use Rattle.packed_value.specs.Made.{valueMade}
 use borrow.Author.Needs.{needs}
 use Rattle.packed_value.proofs.inner.value_of.Statement.{statement}
 use Rattle.packed_value.proofs.inner.value_of.Tie as tie
-use Rattle.packed_value.proofs.inner.value_of.Reads as reads
-use Rattle.packed_value.proofs.inner.value_of.Lts as lts
-use Rattle.bits.proofs.signed.to_i16.Reads as to-i16-reads
-use Rattle.bits.proofs.signed.to_i32.Reads as to-i32-reads
-use Rattle.bits.proofs.signed.to_i64.Reads as to-i64-reads
-use Rattle.packed_value.proofs.inner.float32.Reads as float32-reads
-use Rattle.packed_value.proofs.inner.float64.Reads as float64-reads
 
 cast-t8 : tie.Need-cast-t8
 cast-t8 c = search needs
