@@ -23,11 +23,11 @@ impl<'a> Old<'a> {
             }
             Task::ColumnRead => {
                 let mut types = bench::types(&[]);
-                Box::new(move |_| (0..work.calls / 100).for_each(|_| bench::types_read(&work.bytes, &mut types)))
+                Box::new(move |_| bench::types_read(&work.bytes, &mut types))
             }
             Task::ColumnWrite => {
                 let types = bench::types(&work.table);
-                Box::new(move |out| (0..work.calls / 100).for_each(|_| bench::types_written(&types, out)))
+                Box::new(move |out| bench::types_written(&types, out))
             }
             Task::RowWrite => {
                 let values = bench::values(&work.table, &work.values, &work.bytes);

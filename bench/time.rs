@@ -1,11 +1,12 @@
-//! Times the work: in each round every side takes its turn, and what counts is the median of the rounds' ratios.
+//! Times the work. A round goes through all of it, so that what else the machine does meets few rounds of a piece of work; within a round the sides take
+//! their turns one behind another, and what counts is the median of the rounds' ratios.
 use crate::old::Old;
 use crate::sides::{Codec, Plain};
 use crate::work::{self, Lent, Work};
-use std::time::{Duration, Instant};
+use std::time::Instant;
 
-/// A turn takes at least so long.
-const TURN: Duration = Duration::from_millis(2);
+/// A turn takes at least so many nanoseconds.
+const TURN: f64 = 2e6;
 
 /// A side's name, and one pass by it.
 type Side<'a> = (&'static str, Box<dyn FnMut() + 'a>);
@@ -19,10 +20,10 @@ fn turn(pass: &mut dyn FnMut(), passes: u32) -> f64 {
     start.elapsed().as_nanos() as f64 / f64::from(passes)
 }
 
-/// How many passes a turn takes; they also warm the caches.
+/// How many passes a turn takes. Finding it out warms the caches.
 fn passes(pass: &mut dyn FnMut()) -> u32 {
     let mut count = 1;
-    while count < 1 << 20 && turn(pass, count) * f64::from(count) < TURN.as_nanos() as f64 {
+    while count < 1 << 20 && turn(pass, count) * f64::from(count) < TURN {
         count *= 2;
     }
     count
@@ -49,26 +50,48 @@ fn sides<'a>(work: &'a Work, bytes: &'a [u8]) -> Vec<Side<'a>> {
     sides
 }
 
-fn one(work: &Work, rounds: usize) {
-    let written = crate::compare(work);
-    // A block copy of what is written; of what is read where nothing is.
-    let bytes = if written.is_empty() { &work.bytes } else { &written };
-    let mut sides = sides(work, bytes);
-    let counts: Vec<u32> = sides.iter_mut().map(|(_, pass)| passes(pass)).collect();
-    let times: Vec<Vec<f64>> =
-        (0..rounds).map(|_| sides.iter_mut().zip(&counts).map(|((_, pass), &count)| turn(pass, count)).collect()).collect();
-    for (i, (side, _)) in sides.iter().enumerate() {
-        let time = median(times.iter().map(|round| round[i]).collect());
-        println!("time {} {} {:.0} {} {}", work.name, side, time, work.calls, bytes.len());
-        if i > 0 {
-            println!("ratio {} {} {:.3}", work.name, side, median(times.iter().map(|round| round[0] / round[i]).collect()));
+/// What is known of a piece of work: its sides, the times that each took for a pass, the calls and bytes of a pass.
+struct Timed {
+    name: String,
+    sides: Vec<&'static str>,
+    rounds: Vec<Vec<f64>>,
+    calls: usize,
+    size: usize,
+}
+
+impl Timed {
+    fn print(&self) {
+        for (i, side) in self.sides.iter().enumerate() {
+            let time = median(self.rounds.iter().map(|round| round[i]).collect());
+            println!("time {} {} {:.0} {} {}", self.name, side, time, self.calls, self.size);
+            if i > 0 {
+                println!("ratio {} {} {:.3}", self.name, side, median(self.rounds.iter().map(|round| round[0] / round[i]).collect()));
+            }
         }
     }
 }
 
-/// Compares and times all the work.
+/// Compares all the work, and times it.
 pub fn all(rounds: usize) {
-    for work in work::all::<Codec>(false) {
-        one(&work, rounds);
+    let work = work::all::<Codec>(false);
+    let written: Vec<Vec<u8>> = work.iter().map(crate::compare).collect();
+    let mut timed: Vec<Timed> = vec![];
+    for round in 0..rounds {
+        for (i, (work, written)) in work.iter().zip(&written).enumerate() {
+            // A block copy of what is written; of what is read where nothing is.
+            let bytes = if written.is_empty() { &work.bytes } else { written };
+            let mut sides = sides(work, bytes);
+            let times = sides.iter_mut().map(|(_, pass)| {
+                let passes = passes(pass);
+                turn(pass, passes)
+            });
+            let times = times.collect();
+            if round == 0 {
+                let sides = sides.iter().map(|(side, _)| *side).collect();
+                timed.push(Timed { name: work.name.clone(), sides, rounds: vec![], calls: work.calls, size: bytes.len() });
+            }
+            timed[i].rounds.push(times);
+        }
     }
+    timed.iter().for_each(Timed::print);
 }

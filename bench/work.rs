@@ -54,7 +54,7 @@ pub struct Work {
     /// How long a text is.
     pub step: usize,
     pub headers: Vec<[u16; 6]>,
-    /// A row's columns, or the columns to be written.
+    /// A row's columns, or the columns to be written, a record each.
     pub table: Vec<u8>,
     /// The values of `SETS` rows to be written.
     pub values: Vec<u64>,
@@ -107,25 +107,21 @@ pub fn pass<C: Calls>(work: &Work, lent: &mut Lent, mut seen: impl FnMut(Outcome
             }
         }
         Task::ColumnRead => {
-            for _ in 0..work.calls / 100 {
-                let mut at = 0;
-                for i in 0..100 {
-                    let answer = C::column_read(bytes, at, i, &mut lent.column, &mut lent.names);
-                    at = answer.unwrap_or(0);
-                    seen(answer, lent, 0, 0);
-                }
+            let mut at = 0;
+            for i in 0..work.calls {
+                let answer = C::column_read(bytes, at, i as u16, &mut lent.column, &mut lent.names);
+                at = answer.unwrap_or(0);
+                seen(answer, lent, 0, 0);
             }
         }
         Task::ColumnWrite => {
-            for _ in 0..work.calls / 100 {
-                let mut at = 0;
-                for record in work.table.chunks_exact(16) {
-                    lent.column.copy_from_slice(record);
-                    let answer = C::column_write(&lent.column, &[0; 6], &[], &mut lent.out[at..]);
-                    let count = answer.unwrap_or(0);
-                    seen(answer, lent, at, count);
-                    at += count;
-                }
+            let mut at = 0;
+            for record in work.table.chunks_exact(16) {
+                lent.column.copy_from_slice(record);
+                let answer = C::column_write(&lent.column, &[0; 6], &[], &mut lent.out[at..]);
+                let count = answer.unwrap_or(0);
+                seen(answer, lent, at, count);
+                at += count;
             }
         }
         Task::RowWrite => {
@@ -237,10 +233,10 @@ fn described(record: &[u8; 16]) -> Vec<u8> {
 }
 
 fn descriptors(task: Task, lists: usize) -> Work {
-    let list = list();
+    let list = list().repeat(lists);
     let bytes: Vec<u8> = list.iter().flat_map(described).collect();
     let name = if task == Task::ColumnRead { "columns-read" } else { "columns-write" };
-    Work { size: lists * bytes.len(), calls: 100 * lists, table: list.concat(), bytes, ..empty(name.to_string(), task, 0) }
+    Work { calls: list.len(), table: list.concat(), size: bytes.len(), bytes, ..empty(name.to_string(), task, 0) }
 }
 
 /// What a row is made of: its columns, the values of `SETS` rows, and the buffer that their content stands in.
