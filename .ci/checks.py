@@ -7,6 +7,7 @@
 - The replay program's stdin and stdout are what the cases make (cases/frames.py).
 - README.md shows what there is (shown.py).
 - Each sentence of docs/TRACE.md has evidence (traced.py), and each name on the pages a source text for the audit page (audit/text.py).
+- The ways in from C and Rust are the proved one (bindings.py).
 
 .ci/sabotage.py tries that each of them can fail.
 """
@@ -14,6 +15,7 @@ import pathlib
 import subprocess
 import sys
 
+import bindings
 import complete
 import names
 import shown
@@ -39,7 +41,7 @@ def frame_faults():
 
 def main():
     faults = [fault for check in (crate_faults, frame_faults) for fault in check()]
-    for check in (names.faults, complete.faults, shown.faults, traced.faults, text.faults):
+    for check in (names.faults, complete.faults, shown.faults, traced.faults, text.faults, bindings.faults):
         try:
             faults += check(ROOT)
         except ValueError as fault:

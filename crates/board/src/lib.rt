@@ -4,13 +4,11 @@
 // library's answer into the struct.
 ghost use mathlib.Core.Path.{_≡_};
 ghost use lib.ListN.{length};
-ghost use Rattle.format.specs.Answer.{gives, andThen, mapRead, readAt, fitted, wrote, roomAfter};
+ghost use Rattle.format.specs.Answer.{gives, andThen, fitted, wrote, roomAfter};
 ghost use Rattle.format.specs.Header.{writeHeader};
 ghost use Rattle.format.specs.Prelogin.{writePrelogin};
 ghost use Rattle.format.specs.Guid.{guidOrder};
-ghost use Rattle.format.specs.Descriptor.{readColumn};
 ghost use Rattle.format.specs.Text.{textIn, textOut};
-ghost use Rattle.packed_slot.specs.Slots.{slotOf};
 ghost use Rattle.board_answer.specs.Told.{counted, place, after};
 ghost use Rattle.board_packet.specs.Plain.{headerAt, headerGiven, preloginGiven};
 ghost use Rattle.board_number.specs.Plain.{numberAt, guidAt};
@@ -139,7 +137,7 @@ pub extern "C" fn morelquilt_column_read(
     column: &mut [u8; 16],
     names: &mut [u64; 6],
 ) -> Counted
-    ensures answer { λ r. ⌜ r ≡ counted (place (readAt readColumn (now (bytes .entry)) at)) ⌝ }
+    ensures answer { λ r. ⌜ r ≡ counted (place (recordAt index (now (bytes .entry)) at)) ⌝ }
     ensures column { λ _. ⌜ now (column .exit) ≡ after (recordAt index (now (bytes .entry)) at) (now (column .entry)) ⌝ }
     ensures names { λ _. ⌜ now (names .exit) ≡ after (spansAt (now (bytes .entry)) at) (now (names .entry)) ⌝ }
 {
@@ -209,7 +207,7 @@ pub extern "C" fn morelquilt_value_read(
 ) -> Counted
     ensures answer { λ r. ⌜ r ≡ counted (place (valueAt (now (column .entry)) (now (row .entry)) at (now (room .entry)))) ⌝ }
     ensures room { λ _. ⌜ now (room .exit) ≡ roomAt (now (column .entry)) (now (row .entry)) at (now (room .entry)) ⌝ }
-    ensures value { λ _. ⌜ now (value .exit) ≡ after (mapRead slotOf (valueAt (now (column .entry)) (now (row .entry)) at (now (room .entry)))) (now (value .entry)) ⌝ }
+    ensures value { λ _. ⌜ now (value .exit) ≡ after (valueAt (now (column .entry)) (now (row .entry)) at (now (room .entry))) (now (value .entry)) ⌝ }
 {
     board_value::value_read(column, row, at, room, value)
 }
@@ -281,9 +279,9 @@ pub extern "C" fn morelquilt_row_read(
     room: &mut [u8],
     values: &mut [u64],
 ) -> Counted
-    ensures answer { λ r. ⌜ r ≡ counted (place (rowAt (now (table .entry)) (now (row .entry)) at (length (now (room .entry))) (length (now (values .entry))))) ⌝ }
-    ensures room { λ _. ⌜ now (room .exit) ≡ rowRoom (now (table .entry)) (rowAt (now (table .entry)) (now (row .entry)) at (length (now (room .entry))) (length (now (values .entry)))) (now (room .entry)) ⌝ }
-    ensures values { λ _. ⌜ now (values .exit) ≡ rowValues (now (table .entry)) (now (row .entry)) at (rowAt (now (table .entry)) (now (row .entry)) at (length (now (room .entry))) (length (now (values .entry)))) (now (values .entry)) ⌝ }
+    ensures answer { λ r. ⌜ r ≡ counted (place (rowAt (now (table .entry)) (now (row .entry)) at (now (room .entry)) (now (values .entry)))) ⌝ }
+    ensures room { λ _. ⌜ now (room .exit) ≡ rowRoom (now (table .entry)) (now (row .entry)) at (now (room .entry)) (now (values .entry)) ⌝ }
+    ensures values { λ _. ⌜ now (values .exit) ≡ rowValues (now (table .entry)) (now (row .entry)) at (now (room .entry)) (now (values .entry)) ⌝ }
 {
     board_row_read::row_read(table, row, at, room, values)
 }
@@ -297,9 +295,9 @@ pub extern "C" fn morelquilt_row_normal(
     out: &mut [u8],
     next: &mut u64,
 ) -> Counted
-    ensures answer { λ r. ⌜ r ≡ counted (bytes (normalAt (now (table .entry)) (now (row .entry)) at (length (now (out .entry))))) ⌝ }
-    ensures room { λ _. ⌜ now (out .exit) ≡ normalRoom (normalAt (now (table .entry)) (now (row .entry)) at (length (now (out .entry)))) (now (out .entry)) ⌝ }
-    ensures next { λ _. ⌜ now (next .exit) ≡ ends (normalAt (now (table .entry)) (now (row .entry)) at (length (now (out .entry)))) (now (next .entry)) ⌝ }
+    ensures answer { λ r. ⌜ r ≡ counted (bytes (normalAt (now (table .entry)) (now (row .entry)) at (now (out .entry)))) ⌝ }
+    ensures room { λ _. ⌜ now (out .exit) ≡ normalRoom (now (table .entry)) (now (row .entry)) at (now (out .entry)) ⌝ }
+    ensures next { λ _. ⌜ now (next .exit) ≡ ends (normalAt (now (table .entry)) (now (row .entry)) at (now (out .entry))) (now (next .entry)) ⌝ }
 {
     board_row_read::row_normal(table, row, at, out, next)
 }

@@ -62,11 +62,11 @@ module _ (r : Counted) (s : List ℕ) (at index : ℕ) (new column spans names :
   spanned x = mapRead (λ c. schemaSpans at (c .schema)) x
 
   abbrev pub Leaves : Type 0
-  Leaves = (r ≡ counted (place read)) × ((new ≡ after (recorded read) column) × (spans ≡ after (spanned read) names))
+  Leaves = (r ≡ counted (place (recorded read))) × ((new ≡ after (recorded read) column) × (spans ≡ after (spanned read) names))
 
-  leaves : (x : Read D.Column) → x ≡ read → r ≡ counted (place x) → new ≡ after (recorded x) column → spans ≡ after (spanned x) names → Leaves
+  leaves : (x : Read D.Column) → x ≡ read → r ≡ counted (place (recorded x)) → new ≡ after (recorded x) column → spans ≡ after (spanned x) names → Leaves
   leaves x e c n m = (
-    c ∙ ap (λ (y : Read D.Column). counted (place y)) e,
+    c ∙ ap (λ (y : Read D.Column). counted (place (recorded y))) e,
     (n ∙ ap (λ (y : Read D.Column). after (recorded y) column) e, m ∙ ap (λ (y : Read D.Column). after (spanned y) names) e),
   )
 

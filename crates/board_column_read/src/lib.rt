@@ -2,8 +2,6 @@
 // XML_INFO's three names.
 ghost use mathlib.Core.Path.{_≡_};
 ghost use Prim.Native.Nat.{_≤_};
-ghost use Rattle.format.specs.Answer.{readAt};
-ghost use Rattle.format.specs.Descriptor.{readColumn};
 ghost use Rattle.board_answer.specs.Told.{counted, place, after};
 ghost use Rattle.board_column_read.specs.Plain.{recordAt, spansAt};
 ghost use Rattle.board_column_read.specs.Made as M;
@@ -127,7 +125,7 @@ pub fn column_read(
     column: &mut [u8; 16],
     names: &mut [u64; 6],
 ) -> Counted
-    ensures answer { λ r. ⌜ r ≡ counted (place (readAt readColumn (now (bytes .entry)) at)) ⌝ }
+    ensures answer { λ r. ⌜ r ≡ counted (place (recordAt index (now (bytes .entry)) at)) ⌝ }
     ensures column { λ _. ⌜ now (column .exit) ≡ after (recordAt index (now (bytes .entry)) at) (now (column .entry)) ⌝ }
     ensures names { λ _. ⌜ now (names .exit) ≡ after (spansAt (now (bytes .entry)) at) (now (names .entry)) ⌝ }
 {

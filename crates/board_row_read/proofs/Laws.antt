@@ -4,14 +4,14 @@ use mathlib.Core.Path.{_≡_, refl, sym, ap, _∙_}
 use mathlib.Core.List.{List, [], _∷_}
 use Prim.Native.Nat.{ℕ}
 use lib.ListN.{length}
-use Rattle.format.specs.Answer.{Answer, gives, refuses, Read, took, stops, mapRead}
+use Rattle.format.specs.Answer.{Answer, gives, refuses, Read, took, stops, mapRead, roomAfterRead}
 use Rattle.format.specs.Descriptor.{Column}
 use Rattle.format.specs.Value.{Value}
 use Rattle.value_weigh.specs.Told.{Needs}
 use Rattle.judge_step.specs.Told.{needsOf}
 use Rattle.board_answer.specs.declared.Counted.{Counted}
 use Rattle.board_answer.specs.Told.{counted, place}
-use Rattle.board_row_read.specs.Plain.{needsNumbers, bytes, normalRoom, ends}
+use Rattle.board_row_read.specs.Plain.{needsNumbers, itself, bytes, ends}
 
 -- ---- needs
 
@@ -37,9 +37,9 @@ count (stops e) = refuses e
 
 module _ (r : Counted) (told : Read ℕ) (new : List ℕ) (next : ℕ) (out : List ℕ) (before : ℕ) where
   abbrev pub Leaves : Read (List ℕ) → Type 0
-  Leaves read = (r ≡ counted (bytes read)) × ((new ≡ normalRoom read out) × (next ≡ ends read before))
+  Leaves read = (r ≡ counted (bytes read)) × ((new ≡ roomAfterRead itself read out) × (next ≡ ends read before))
 
-  pub leaves : (read : Read (List ℕ)) → told ≡ mapRead length read → r ≡ counted (count told) → new ≡ normalRoom read out → next ≡ ends told before →
+  pub leaves : (read : Read (List ℕ)) → told ≡ mapRead length read → r ≡ counted (count told) → new ≡ roomAfterRead itself read out → next ≡ ends told before →
       Leaves read
   leaves (took form m) e c n h = (c ∙ ap (λ (x : Read ℕ). counted (count x)) e, (n, h ∙ ap (λ (x : Read ℕ). ends x before) e))
   leaves (stops f) e c n h = (c ∙ ap (λ (x : Read ℕ). counted (count x)) e, (n, h ∙ ap (λ (x : Read ℕ). ends x before) e))

@@ -18,32 +18,32 @@ needsNumbers cs vs = length (copiedOutRow cs vs) ∷ length (encodeRow cs vs) �
 abbrev pub needsAt : List ℕ → List ℕ → ℕ → Read (List ℕ)
 needsAt table s at = mapRead (needsNumbers (tableColumns table)) (readAt (readRow (tableColumns table)) s at)
 
--- ---- the row, in a room of so many bytes and a list of so many numbers; the room and the list afterwards
+-- ---- the row, with a room and a list of numbers; the room and the list afterwards
 
-abbrev pub rowAt : List ℕ → List ℕ → ℕ → ℕ → ℕ → Read (List Value)
-rowAt table s at size numbers = rowOut (tableColumns table) s at size numbers
+abbrev pub rowAt : List ℕ → List ℕ → ℕ → List ℕ → List ℕ → Read (List Value)
+rowAt table s at room values = rowOut (tableColumns table) s at (length room) (length values)
 
-abbrev pub rowRoom : List ℕ → Read (List Value) → List ℕ → List ℕ
-rowRoom table read out = roomAfterRead (copiedOutRow (tableColumns table)) read out
+abbrev pub rowRoom : List ℕ → List ℕ → ℕ → List ℕ → List ℕ → List ℕ
+rowRoom table s at room values = roomAfterRead (copiedOutRow (tableColumns table)) (rowAt table s at room values) room
 
-abbrev pub rowValues : List ℕ → List ℕ → ℕ → Read (List Value) → List ℕ → List ℕ
-rowValues table s at read before = valuesAfter (tableColumns table) s at read before
+abbrev pub rowValues : List ℕ → List ℕ → ℕ → List ℕ → List ℕ → List ℕ
+rowValues table s at room values = valuesAfter (tableColumns table) s at (rowAt table s at room values) values
 
--- ---- the normal form, in a room of so many bytes
+-- ---- the normal form, with a room; the room afterwards
 
 abbrev pub itself : List ℕ → List ℕ
 itself bytes = bytes
 
-abbrev pub normalAt : List ℕ → List ℕ → ℕ → ℕ → Read (List ℕ)
-normalAt table s at size = fittedRead itself (readAt (normal (tableColumns table)) s at) size
+abbrev pub normalAt : List ℕ → List ℕ → ℕ → List ℕ → Read (List ℕ)
+normalAt table s at room = fittedRead itself (readAt (normal (tableColumns table)) s at) (length room)
+
+abbrev pub normalRoom : List ℕ → List ℕ → ℕ → List ℕ → List ℕ
+normalRoom table s at room = roomAfterRead itself (normalAt table s at room) room
 
 -- the count is that of the bytes written
 abbrev pub bytes : Read (List ℕ) → Answer ℕ
 bytes (took form next) = gives (length form)
 bytes (stops e) = refuses e
-
-abbrev pub normalRoom : Read (List ℕ) → List ℕ → List ℕ
-normalRoom read out = roomAfterRead itself read out
 
 -- where the row ends; at a refusal, what stood there
 abbrev pub ends : {A : Type 0} → Read A → ℕ → ℕ

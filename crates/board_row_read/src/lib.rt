@@ -1,7 +1,6 @@
 // Rows read under a packed table of columns: what a row needs, its values three numbers each, its
 // normal form.
 ghost use mathlib.Core.Path.{_≡_};
-ghost use lib.ListN.{length};
 ghost use Rattle.board_answer.specs.Told.{counted, place, after};
 ghost use Rattle.board_row_read.specs.Plain.{needsAt, rowAt, rowRoom, rowValues, normalAt, bytes, normalRoom, ends};
 use board_answer::Counted;
@@ -27,9 +26,9 @@ pub fn row_needs(table: &[u8], row: &[u8], at: usize, needs: &mut [u64; 2]) -> C
 // The row at a place: three numbers for each value, at the front of the list; PLP content is joined
 // in the room.
 pub fn row_read(table: &[u8], row: &[u8], at: usize, room: &mut [u8], values: &mut [u64]) -> Counted
-    ensures answer { λ r. ⌜ r ≡ counted (place (rowAt (now (table .entry)) (now (row .entry)) at (length (now (room .entry))) (length (now (values .entry))))) ⌝ }
-    ensures room { λ _. ⌜ now (room .exit) ≡ rowRoom (now (table .entry)) (rowAt (now (table .entry)) (now (row .entry)) at (length (now (room .entry))) (length (now (values .entry)))) (now (room .entry)) ⌝ }
-    ensures values { λ _. ⌜ now (values .exit) ≡ rowValues (now (table .entry)) (now (row .entry)) at (rowAt (now (table .entry)) (now (row .entry)) at (length (now (room .entry))) (length (now (values .entry)))) (now (values .entry)) ⌝ }
+    ensures answer { λ r. ⌜ r ≡ counted (place (rowAt (now (table .entry)) (now (row .entry)) at (now (room .entry)) (now (values .entry)))) ⌝ }
+    ensures room { λ _. ⌜ now (room .exit) ≡ rowRoom (now (table .entry)) (now (row .entry)) at (now (room .entry)) (now (values .entry)) ⌝ }
+    ensures values { λ _. ⌜ now (values .exit) ≡ rowValues (now (table .entry)) (now (row .entry)) at (now (room .entry)) (now (values .entry)) ⌝ }
 {
     let read = packed_read::read_packed(table, row, Cursor { at }, room, values);
     match read {
@@ -40,9 +39,9 @@ pub fn row_read(table: &[u8], row: &[u8], at: usize, room: &mut [u8], values: &m
 
 // The normal form of the row at a place, at the front of the room, and where the row ends.
 pub fn row_normal(table: &[u8], row: &[u8], at: usize, out: &mut [u8], next: &mut u64) -> Counted
-    ensures answer { λ r. ⌜ r ≡ counted (bytes (normalAt (now (table .entry)) (now (row .entry)) at (length (now (out .entry))))) ⌝ }
-    ensures room { λ _. ⌜ now (out .exit) ≡ normalRoom (normalAt (now (table .entry)) (now (row .entry)) at (length (now (out .entry)))) (now (out .entry)) ⌝ }
-    ensures next { λ _. ⌜ now (next .exit) ≡ ends (normalAt (now (table .entry)) (now (row .entry)) at (length (now (out .entry)))) (now (next .entry)) ⌝ }
+    ensures answer { λ r. ⌜ r ≡ counted (bytes (normalAt (now (table .entry)) (now (row .entry)) at (now (out .entry)))) ⌝ }
+    ensures room { λ _. ⌜ now (out .exit) ≡ normalRoom (now (table .entry)) (now (row .entry)) at (now (out .entry)) ⌝ }
+    ensures next { λ _. ⌜ now (next .exit) ≡ ends (normalAt (now (table .entry)) (now (row .entry)) at (now (out .entry))) (now (next .entry)) ⌝ }
 {
     let form = packed_normal::normal_packed(table, row, Cursor { at }, out);
     match form {

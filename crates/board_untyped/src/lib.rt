@@ -15,7 +15,7 @@ pub fn untyped_size(value: &[u64; 3], buffer: &[u8]) -> Counted
     let judged = packed_value::judge_value(value);
     match judged {
         Judged::Fine => {
-            let v = three::value_of(value[0], value[1], value[2]);
+            let v = three::value_at(value, 0);
             board_answer::answer(untyped_size::untyped_size(v, buffer))
         }
         Judged::Refused(e) => board_answer::refused(e),
@@ -30,7 +30,7 @@ pub fn untyped_write(value: &[u64; 3], buffer: &[u8], out: &mut [u8]) -> Counted
     let judged = packed_value::judge_value(value);
     match judged {
         Judged::Fine => {
-            let v = three::value_of(value[0], value[1], value[2]);
+            let v = three::value_at(value, 0);
             board_answer::answer(untyped_write::write_untyped(v, buffer, out))
         }
         Judged::Refused(e) => board_answer::refused(e),

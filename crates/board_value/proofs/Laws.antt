@@ -6,7 +6,7 @@ use mathlib.Core.Option.{none, some}
 use Prim.Native.Nat.{ℕ, zero-le}
 use lib.ListN.{length, getD}
 use borrow.Author.Tests.{le-ltb}
-use Rattle.format.specs.Answer.{Refusal, Answer, gives, refuses, Read, took, stops, mapRead, inside, part}
+use Rattle.format.specs.Answer.{Refusal, refuses, Read, mapRead, inside, part}
 use Rattle.format.specs.Descriptor as D
 use Rattle.format.specs.Value.{writeValue}
 use Rattle.format.specs.Found.{Found}
@@ -22,8 +22,6 @@ use Rattle.packed_value.specs.Numbers.{noValue}
 use Rattle.packed_value.specs.Made.{givenMade}
 use Rattle.packed_value.proofs.Told.{value-told}
 use Rattle.packed_slot.specs.Slots.{slotOf}
-use Rattle.board_answer.specs.declared.Counted.{Counted}
-use Rattle.board_answer.specs.Told.{counted, place, after}
 use Rattle.board_value.specs.Plain.{valueGiven, valueAt, roomAt}
 
 -- ---- a record without names stands for its column, whatever the buffer
@@ -54,19 +52,8 @@ module _ (column s : List ℕ) (at : ℕ) (room : List ℕ) (c : Column) (x : c 
   is : columnTold [] c ≡ columnOf column noNames
   is = column-is [] column c x
 
-  pub found-is : (told read : Read Found) → told ≡ read → told ≡ foundOut (columnTold [] c) s at room → read ≡ valueAt column s at room
-  found-is told read t h = sym t ∙ (h ∙ ap (λ (d : D.Column). foundOut d s at room) is)
+  pub value-is : (told read : Read Found) → told ≡ read → told ≡ foundOut (columnTold [] c) s at room → mapRead slotOf read ≡ valueAt column s at room
+  value-is told read t h = ap (mapRead slotOf) (sym t ∙ (h ∙ ap (λ (d : D.Column). foundOut d s at room) is))
 
   pub room-is : (new : List ℕ) → new ≡ roomOut (columnTold [] c) s at room → new ≡ roomAt column s at room
   room-is new h = h ∙ ap (λ (d : D.Column). roomOut d s at room) is
-
--- the answer, the room, the value's three numbers
-module _ (r : Counted) (read : Read Found) (room left : List ℕ) (new before : List ℕ) where
-  abbrev pub Finds : Type 0
-  Finds = (r ≡ counted (place read)) × ((room ≡ left) × (new ≡ after (mapRead slotOf read) before))
-
-  pub finds-took : (f : Found) (next : ℕ) → r ≡ counted (gives next) → room ≡ left → new ≡ slotOf f → took f next ≡ read → Finds
-  finds-took f next c o n e = (c ∙ ap (λ (x : Read Found). counted (place x)) e, (o, n ∙ ap (λ (x : Read Found). after (mapRead slotOf x) before) e))
-
-  pub finds-stops : (e : Refusal) → r ≡ counted (refuses e) → room ≡ left → new ≡ before → stops e ≡ read → Finds
-  finds-stops e c o n h = (c ∙ ap (λ (x : Read Found). counted (place x)) h, (o, n ∙ ap (λ (x : Read Found). after (mapRead slotOf x) before) h))

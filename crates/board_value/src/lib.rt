@@ -1,27 +1,16 @@
 // Values as three numbers, under a column as a record of 16 bytes: sized, written, read.
 ghost use mathlib.Core.Path.{_≡_};
 ghost use lib.ListN.{length};
-ghost use Rattle.format.specs.Answer.{mapRead, fitted, wrote, roomAfter};
-ghost use Rattle.packed.specs.Made.{columnMade, noName};
-ghost use Rattle.packed_slot.specs.Slots.{slotOf};
+ghost use Rattle.format.specs.Answer.{fitted, wrote, roomAfter};
 ghost use Rattle.board_answer.specs.Told.{counted, place, after};
 ghost use Rattle.board_value.specs.Plain.{valueGiven, valueAt, roomAt};
 use board_answer::Counted;
-use column_type::Column;
-use column_type::Name;
+use packed::inner as table;
 use packed_slot::inner as slot;
 use packed_value::Judged;
 use packed_value::inner as three;
 use value_found::ValueRead;
 use wire::Cursor;
-
-// The column of a record, its names empty.
-fn column_of(r: &[u8]) -> Column
-    ensures { λ c. ⌜ c ≡ columnMade (now (r .entry)) noName noName noName ⌝ }
-{
-    let none = Name { start: 0, units: 0 };
-    packed::column_of(r, none, none, none)
-}
 
 // How many bytes the value takes under the column.
 pub fn value_size(column: &[u8; 16], value: &[u64; 3], buffer: &[u8]) -> Counted
@@ -30,8 +19,8 @@ pub fn value_size(column: &[u8; 16], value: &[u64; 3], buffer: &[u8]) -> Counted
     let judged = packed_value::judge_value(value);
     match judged {
         Judged::Fine => {
-            let c = column_of(column);
-            let v = three::value_of(value[0], value[1], value[2]);
+            let c = table::column_at(column, 0);
+            let v = three::value_at(value, 0);
             board_answer::answer(value_write::value_size(c, v, buffer))
         }
         Judged::Refused(e) => board_answer::refused(e),
@@ -46,8 +35,8 @@ pub fn value_write(column: &[u8; 16], value: &[u64; 3], buffer: &[u8], out: &mut
     let judged = packed_value::judge_value(value);
     match judged {
         Judged::Fine => {
-            let c = column_of(column);
-            let v = three::value_of(value[0], value[1], value[2]);
+            let c = table::column_at(column, 0);
+            let v = three::value_at(value, 0);
             board_answer::answer(value_write::write_value(c, v, buffer, out))
         }
         Judged::Refused(e) => board_answer::refused(e),
@@ -64,9 +53,9 @@ pub fn value_read(
 ) -> Counted
     ensures answer { λ r. ⌜ r ≡ counted (place (valueAt (now (column .entry)) (now (row .entry)) at (now (room .entry)))) ⌝ }
     ensures room { λ _. ⌜ now (room .exit) ≡ roomAt (now (column .entry)) (now (row .entry)) at (now (room .entry)) ⌝ }
-    ensures value { λ _. ⌜ now (value .exit) ≡ after (mapRead slotOf (valueAt (now (column .entry)) (now (row .entry)) at (now (room .entry)))) (now (value .entry)) ⌝ }
+    ensures value { λ _. ⌜ now (value .exit) ≡ after (valueAt (now (column .entry)) (now (row .entry)) at (now (room .entry))) (now (value .entry)) ⌝ }
 {
-    let c = column_of(column);
+    let c = table::column_at(column, 0);
     let read = value_read::read_value(c, row, Cursor { at }, room);
     match read {
         ValueRead::Value(found, next) => {

@@ -1,7 +1,6 @@
 -- `board_row_read::row_normal` meets its contract: what the layer below wrote, as two numbers, and where the row ends. Assumes nothing.
 use mathlib.Core.Path.{refl, sym, ap, _∙_}
 use denote.Ref.{now}
-use lib.ListN.{length}
 use Rattle.normal_step.specs.Told.{normalTold}
 use Rattle.board_row_read.specs.Plain.{normalAt}
 use Rattle.board_row_read.proofs.Laws.{leaves}
@@ -35,7 +34,7 @@ returns c =
     let a = start .args in
     let told = after-normal-packed .normal-packed .ensures in
     let e = sym (ap normalTold (after-form .form .given .1)) ∙ told .0 in
-    let read = normalAt (now (a .table)) (now (a .row)) (a .at) (length (now (a .out))) in
+    let read = normalAt (now (a .table)) (now (a .row)) (a .at) (now (a .out)) in
     leaves _ _ _ _ (now (a .out)) (now (a .next)) read e (c .count .ensures) (told .1) refl
 
 same-length-2 : tie.Need-same-length-2
@@ -49,7 +48,7 @@ returns-2 c =
     let a = start .args in
     let told = after-normal-packed .normal-packed .ensures in
     let e = sym (ap normalTold (after-form2 .form2 .given .1)) ∙ told .0 in
-    let read = normalAt (now (a .table)) (now (a .row)) (a .at) (length (now (a .out))) in
+    let read = normalAt (now (a .table)) (now (a .row)) (a .at) (now (a .out)) in
     leaves _ _ _ _ (now (a .out)) (now (a .next)) read e (c .refused .ensures) (told .1) refl
 
 pub row-normal-spec : {M : Type 1} → statement M

@@ -1,6 +1,5 @@
 -- `board_row_read::row_read` meets its contract: what the layer below read, by where the row ends. Assumes nothing.
 use mathlib.Core.Path.{ap}
-use lib.ListN.{length}
 use denote.Ref.{now}
 use Rattle.judge_step.specs.Told.{rowJudgedTold}
 use Rattle.packed.specs.Packed.{tableColumns}
@@ -38,7 +37,7 @@ returns c =
     let start = after-read-packed .before .before .before .before .before .before .before in
     let a = start .args in
     let told = after-read-packed .read-packed .ensures in
-    let read = rowAt (now (a .table)) (now (a .row)) (a .at) (length (now (a .room))) (length (now (a .values))) in
+    let read = rowAt (now (a .table)) (now (a .row)) (a .at) (now (a .room)) (now (a .values)) in
     let is = ap rowJudgedTold (after-read .read .given .1) in
     (row-ends _ (tableColumns (now (a .table))) _ _ read is (told .0) (c .at .ensures), told .1)
 
@@ -55,7 +54,7 @@ returns-2 c =
     let start = after-read-packed .before .before .before .before .before .before .before in
     let a = start .args in
     let told = after-read-packed .read-packed .ensures in
-    let read = rowAt (now (a .table)) (now (a .row)) (a .at) (length (now (a .room))) (length (now (a .values))) in
+    let read = rowAt (now (a .table)) (now (a .row)) (a .at) (now (a .room)) (now (a .values)) in
     let is = ap rowJudgedTold (after-read2 .read2 .given .1) in
     (row-ends _ (tableColumns (now (a .table))) _ _ read is (told .0) (c .refused .ensures), told .1)
 

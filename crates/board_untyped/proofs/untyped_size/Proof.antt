@@ -16,17 +16,8 @@ judge-value-requires c κs = search needs
 enum-told : tie.Need-enum-told
 enum-told c = search needs
 
-element-copy-out-value-of : tie.Need-element-copy-out-value-of
-element-copy-out-value-of c = search needs
-
-element-copy-out-value-of-2 : tie.Need-element-copy-out-value-of-2
-element-copy-out-value-of-2 c = search needs
-
-element-copy-out-value-of-3 : tie.Need-element-copy-out-value-of-3
-element-copy-out-value-of-3 c = search needs
-
-value-of-requires : tie.Need-value-of-requires
-value-of-requires c κs = search needs
+value-at-requires : tie.Need-value-at-requires
+value-at-requires c κs = search needs
 
 untyped-size-requires : tie.Need-untyped-size-requires
 untyped-size-requires c κs = search needs
@@ -43,14 +34,14 @@ refused-requires c κs = search needs
 returns : tie.Need-returns
 returns c =
     let after-untyped-size = c .before in
-    let after-value-of = after-untyped-size .before in
-    let after-enum-told = after-value-of .before .before .before .before in
+    let after-value-at = after-untyped-size .before in
+    let after-enum-told = after-value-at .before .before in
     let after-judge-value = after-enum-told .before .before in
     let start = after-judge-value .before .before .before in
     let a = start .args in
     let fine = sym (after-judge-value .judge-value .ensures) ∙ ap judgedTold (after-enum-told .enum-told .given .1) in
     size-told _ _ _ _ (c .answer .ensures) (after-untyped-size .untyped-size .ensures)
-    (untyped-is (now (a .value)) (now (a .buffer)) _ (after-value-of .value-of .ensures) fine)
+    (untyped-is (now (a .value)) (now (a .buffer)) _ (after-value-at .value-at .ensures) fine)
 
 returns-2 : tie.Need-returns-2
 returns-2 c =
@@ -67,10 +58,7 @@ untyped-size-spec =
     (tie.spec
     judge-value-requires
     enum-told
-    element-copy-out-value-of
-    element-copy-out-value-of-2
-    element-copy-out-value-of-3
-    value-of-requires
+    value-at-requires
     untyped-size-requires
     answer-requires
     enum-known-judged

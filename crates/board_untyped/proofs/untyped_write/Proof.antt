@@ -16,17 +16,8 @@ judge-value-requires c κs = search needs
 enum-told : tie.Need-enum-told
 enum-told c = search needs
 
-element-copy-out-value-of : tie.Need-element-copy-out-value-of
-element-copy-out-value-of c = search needs
-
-element-copy-out-value-of-2 : tie.Need-element-copy-out-value-of-2
-element-copy-out-value-of-2 c = search needs
-
-element-copy-out-value-of-3 : tie.Need-element-copy-out-value-of-3
-element-copy-out-value-of-3 c = search needs
-
-value-of-requires : tie.Need-value-of-requires
-value-of-requires c κs = search needs
+value-at-requires : tie.Need-value-at-requires
+value-at-requires c κs = search needs
 
 write-untyped-requires : tie.Need-write-untyped-requires
 write-untyped-requires c κs = search needs
@@ -46,14 +37,14 @@ same-length c = search needs
 returns : tie.Need-returns
 returns c =
     let after-write-untyped = c .before .before .before in
-    let after-value-of = after-write-untyped .before .before in
-    let after-enum-told = after-value-of .before .before .before .before in
+    let after-value-at = after-write-untyped .before .before in
+    let after-enum-told = after-value-at .before .before in
     let after-judge-value = after-enum-told .before .before in
     let start = after-judge-value .before .before .before .before in
     let a = start .args in
     let fine = sym (after-judge-value .judge-value .ensures) ∙ ap judgedTold (after-enum-told .enum-told .given .1) in
     writes-told _ _ _ _ _ (now (a .out)) (c .answer .ensures)
-    (untyped-is (now (a .value)) (now (a .buffer)) _ (after-value-of .value-of .ensures) fine)
+    (untyped-is (now (a .value)) (now (a .buffer)) _ (after-value-at .value-at .ensures) fine)
     (after-write-untyped .write-untyped .ensures)
 
 returns-2 : tie.Need-returns-2
@@ -71,10 +62,7 @@ untyped-write-spec =
     (tie.spec
     judge-value-requires
     enum-told
-    element-copy-out-value-of
-    element-copy-out-value-of-2
-    element-copy-out-value-of-3
-    value-of-requires
+    value-at-requires
     write-untyped-requires
     answer-requires
     enum-known-judged

@@ -16,20 +16,11 @@ judge-value-requires c κs = search needs
 enum-told : tie.Need-enum-told
 enum-told c = search needs
 
-column-of-requires : tie.Need-column-of-requires
-column-of-requires c κs = search needs
+column-at-requires : tie.Need-column-at-requires
+column-at-requires c κs = search needs
 
-element-copy-out-value-of : tie.Need-element-copy-out-value-of
-element-copy-out-value-of c = search needs
-
-element-copy-out-value-of-2 : tie.Need-element-copy-out-value-of-2
-element-copy-out-value-of-2 c = search needs
-
-element-copy-out-value-of-3 : tie.Need-element-copy-out-value-of-3
-element-copy-out-value-of-3 c = search needs
-
-value-of-requires : tie.Need-value-of-requires
-value-of-requires c κs = search needs
+value-at-requires : tie.Need-value-at-requires
+value-at-requires c κs = search needs
 
 write-value-requires : tie.Need-write-value-requires
 write-value-requires c κs = search needs
@@ -49,15 +40,15 @@ same-length c = search needs
 returns : tie.Need-returns
 returns c =
     let after-write-value = c .before .before .before in
-    let after-value-of = after-write-value .before .before in
-    let after-column-of = after-value-of .before .before .before .before in
-    let after-enum-told = after-column-of .before .before in
+    let after-value-at = after-write-value .before .before in
+    let after-column-at = after-value-at .before .before in
+    let after-enum-told = after-column-at .before .before in
     let after-judge-value = after-enum-told .before .before in
     let start = after-judge-value .before .before .before .before in
     let a = start .args in
     let fine = sym (after-judge-value .judge-value .ensures) ∙ ap judgedTold (after-enum-told .enum-told .given .1) in
     writes-told _ _ _ _ _ (now (a .out)) (c .answer .ensures)
-    (typed-is (now (a .value)) (now (a .buffer)) (now (a .column)) _ _ (after-column-of .column-of .ensures) (after-value-of .value-of .ensures) fine)
+    (typed-is (now (a .value)) (now (a .buffer)) (now (a .column)) _ _ (after-column-at .column-at .ensures) (after-value-at .value-at .ensures) fine)
     (after-write-value .write-value .ensures)
 
 returns-2 : tie.Need-returns-2
@@ -75,11 +66,8 @@ value-write-spec =
     (tie.spec
     judge-value-requires
     enum-told
-    column-of-requires
-    element-copy-out-value-of
-    element-copy-out-value-of-2
-    element-copy-out-value-of-3
-    value-of-requires
+    column-at-requires
+    value-at-requires
     write-value-requires
     answer-requires
     enum-known-judged
