@@ -3,7 +3,7 @@
 - The public list is what crates/morelquilt hands on, and each call's row says where it is proved,
   what its contract is, and at least two must-fail edits that are wrong programs: edits of code, not of
   a promise or a definition. Its words are the contract's own.
-- The exports are the `extern "C"` functions of crates/board, and each one's row says the same of it, as far as it has it.
+- The exports are the `extern "C"` functions of crates/board, and each one's row says the same of it, as far as it has it, and names every definition of its contract.
 - Every other `pub fn` of a library stands under "Not public", by its path, its module or its crate.
 - A module `inner`, whose functions may ask something of their caller, says at its head for whom it is: for the crates of
   this repository, and one of them uses it, or for its crate alone.
@@ -151,8 +151,8 @@ def export_row_faults(cells, sources, uses, wrong):
         yield '%s is proved as %s' % (call, ', '.join(below))
     contract = sources.contract(path)
     said = said_words(cells) + ['counted'] + SHORT.get(cells[2].partition(' `')[0], [])
-    for word in sorted(set(re.findall(r'\b\w*[aA]fter\b', contract)) - set(said)):
-        yield '%s leaves something, and its row does not say %s' % (call, word)
+    for word in sorted(sources.definitions_of(EXPORTER) & set(re.findall(r'\w+', contract)) - set(said)):
+        yield '%s: its row does not say %s' % (call, word)
     yield from contract_faults(call, contract, said)
     yield from edits_faults(call, EXPORTER, cells[4], uses, wrong)
 

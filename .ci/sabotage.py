@@ -70,8 +70,9 @@ NAMES_AND_LISTS = [
     Sabotage('crates/board/src/lib.rt', 'board_packet::header_read(bytes, at, fields)', 'board_packet::header_reads(bytes, at, fields)',
              'morelquilt_header_read is proved as board_packet::header_reads'),
     Sabotage('docs/PUBLIC.md', 'R of `numberAt width high s at`', 'R of `guidAt width high s at`', 'morelquilt_number_read: its contract does not say guidAt'),
-    Sabotage('docs/PUBLIC.md', '| R of `walkAt text s at` |', '| `r ≡ counted (place (walkAt text s at))` |', 'morelquilt_walk_open leaves something, and its row does not say after'),
-    Sabotage('docs/PUBLIC.md', ', and the walk afterwards ≡ `walkAfter (walkStep allowed s walk) walk`', '', 'morelquilt_walk_step leaves something, and its row does not say walkAfter'),
+    Sabotage('docs/PUBLIC.md', '| R of `walkAt text s at` |', '| `r ≡ counted (place (walkAt text s at))` |', 'morelquilt_walk_open: its row does not say after'),
+    Sabotage('docs/PUBLIC.md', ', and the walk afterwards ≡ `walkAfter (walkStep allowed s walk) walk`', '', 'morelquilt_walk_step: its row does not say walkAfter'),
+    Sabotage('docs/PUBLIC.md', ', and the names afterwards ≡ `after (spansAt s at) names`', '', 'morelquilt_column_read: its row does not say spansAt'),
     Sabotage('docs/PUBLIC.md', '`board_packet!three_refused`, ', '', 'morelquilt_prelogin_write has 1 must-fail edits'),
     # edits and crates
     Sabotage('crates/header/must-fail/id_twice.edit', '', None, 'there is no must-fail edit header!id_twice'),

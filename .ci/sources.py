@@ -140,6 +140,11 @@ class Sources:
                 break
         return '\n'.join(head)
 
+    def definitions_of(self, crate):
+        """The definitions of this repository in which a crate's contracts are written, by name."""
+        text = ''.join(file.read_text() for file in sorted((self.crates / crate / 'src').glob('**/*.rt')))
+        return {word for names in re.findall(r'(?m)^ghost use Rattle·\S+\.\{(.*)\};$', text) for word in re.findall(r'\w+', names)}
+
     def exports(self, crate):
         """The functions that a crate exports to C, each with the calls of its body."""
         text = ''.join(file.read_text() for file in sorted((self.crates / crate / 'src').glob('**/*.rt')))

@@ -18,7 +18,7 @@ ghost use Rattle.board_column.specs.Plain.{columnGiven};
 ghost use Rattle.board_value.specs.Plain.{valueGiven, valueAt, roomAt};
 ghost use Rattle.board_untyped.specs.Plain.{untypedGiven};
 ghost use Rattle.board_row.specs.Plain.{rowGiven};
-ghost use Rattle.board_row_read.specs.Plain.{needsAt, rowAt, rowRoom, rowValues, normalAt, bytes, normalRoom, ends};
+ghost use Rattle.board_row_read.specs.Plain.{needsAt, rowAt, rowRoom, rowValues, normalAt, written, normalRoom, ends};
 use board_answer::Counted;
 
 // The header at a place of the bytes: type, status, length, SPID, id, window.
@@ -295,7 +295,7 @@ pub extern "C" fn morelquilt_row_normal(
     out: &mut [u8],
     next: &mut u64,
 ) -> Counted
-    ensures answer { λ r. ⌜ r ≡ counted (bytes (normalAt (now (table .entry)) (now (row .entry)) at (now (out .entry)))) ⌝ }
+    ensures answer { λ r. ⌜ r ≡ counted (written (normalAt (now (table .entry)) (now (row .entry)) at (now (out .entry)))) ⌝ }
     ensures room { λ _. ⌜ now (out .exit) ≡ normalRoom (now (table .entry)) (now (row .entry)) at (now (out .entry)) ⌝ }
     ensures next { λ _. ⌜ now (next .exit) ≡ ends (normalAt (now (table .entry)) (now (row .entry)) at (now (out .entry))) (now (next .entry)) ⌝ }
 {

@@ -29,7 +29,7 @@ abbrev pub indexOf : Schema → ℕ → ℕ
 indexOf S.None index = 0
 indexOf (S.Names a b c) index = index
 
--- the byte of a number that stands at 256 ^ k, for k from 0 to 3
+-- the lowest byte
 abbrev pub low : ℕ → ℕ
 low n = n % 256
 

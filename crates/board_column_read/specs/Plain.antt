@@ -7,20 +7,22 @@ use Rattle.format.specs.Answer.{Read, mapRead, readAt, Part, inside, outside}
 use Rattle.format.specs.Descriptor.{Schema, readColumn}
 use Rattle.packed.specs.Packed.{recordOf}
 
--- ---- the record: "index goes into bytes 14 and 15 where the column has a schema"
+-- ---- the record, with the index that the caller gives: "XML descriptors keep their spans beside the table, with an index in the record."
 
 abbrev pub recordAt : ℕ → List ℕ → ℕ → Read (List ℕ)
 recordAt index s at = mapRead (λ c. recordOf c index) (readAt readColumn s at)
 
--- ---- the names' places in the input: the first behind the type byte, the marker and a count of one byte, each other behind the name before it and its own count,
--- of one byte and of two. Six zeros without a schema.
+-- ---- the names' places in the input
+
 abbrev pub units : Part → ℕ
 units (inside s) = length s / 2
 units outside = 0
 
+-- each name's start and units; the second name stands behind the first and a count of one byte, the third behind the second and a count of two
 abbrev pub spans : ℕ → ℕ → ℕ → ℕ → List ℕ
 spans start a b c = start ∷ a ∷ (start + 2 * a + 1) ∷ b ∷ (start + 2 * a + 1 + 2 * b + 2) ∷ c ∷ []
 
+-- the first stands behind the type byte, the marker and a count of one byte
 abbrev pub schemaSpans : ℕ → Option Schema → List ℕ
 schemaSpans at none = 0 ∷ 0 ∷ 0 ∷ 0 ∷ 0 ∷ 0 ∷ []
 schemaSpans at (some n) = spans (at + 3) (units (n .database)) (units (n .owner)) (units (n .collection))

@@ -6,6 +6,6 @@ use Rattle.format.specs.Row.{writeRow}
 use Rattle.packed.specs.Packed.{tableColumns}
 use Rattle.packed_value.specs.Numbers.{givens, noValues, unless}
 
--- the values' numbers are judged "before the row's own rules"
+-- numbers that are no values are refused before anything else, also before the row's own rules
 abbrev pub rowGiven : List ℕ → List ℕ → List ℕ → Answer (List ℕ)
 rowGiven table values buffer = unless (noValues values) (writeRow (tableColumns table) (givens buffer values))

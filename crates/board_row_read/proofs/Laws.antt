@@ -11,7 +11,7 @@ use Rattle.value_weigh.specs.Told.{Needs}
 use Rattle.judge_step.specs.Told.{needsOf}
 use Rattle.board_answer.specs.declared.Counted.{Counted}
 use Rattle.board_answer.specs.Told.{counted, place}
-use Rattle.board_row_read.specs.Plain.{needsNumbers, itself, bytes, ends}
+use Rattle.board_row_read.specs.Plain.{needsNumbers, itself, written, ends}
 
 -- ---- needs
 
@@ -22,7 +22,7 @@ pub needs-are : (cs : List Column) (x : Read (List Value)) → mapRead numbers (
 needs-are cs (took vs next) = refl
 needs-are cs (stops e) = refl
 
--- ---- a row: a count of what it needs is one of where it ends
+-- ---- a row: it ends where what it needs was told to end
 
 pub row-ends : (r : Counted) (cs : List Column) (told known : Read Needs) (read : Read (List Value)) → told ≡ known → told ≡ mapRead (needsOf cs) read →
     r ≡ counted (place known) → r ≡ counted (place read)
@@ -37,7 +37,7 @@ count (stops e) = refuses e
 
 module _ (r : Counted) (told : Read ℕ) (new : List ℕ) (next : ℕ) (out : List ℕ) (before : ℕ) where
   abbrev pub Leaves : Read (List ℕ) → Type 0
-  Leaves read = (r ≡ counted (bytes read)) × ((new ≡ roomAfterRead itself read out) × (next ≡ ends read before))
+  Leaves read = (r ≡ counted (written read)) × ((new ≡ roomAfterRead itself read out) × (next ≡ ends read before))
 
   pub leaves : (read : Read (List ℕ)) → told ≡ mapRead length read → r ≡ counted (count told) → new ≡ roomAfterRead itself read out → next ≡ ends told before →
       Leaves read

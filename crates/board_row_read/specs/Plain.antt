@@ -41,9 +41,9 @@ abbrev pub normalRoom : List ℕ → List ℕ → ℕ → List ℕ → List ℕ
 normalRoom table s at room = roomAfterRead itself (normalAt table s at room) room
 
 -- the count is that of the bytes written
-abbrev pub bytes : Read (List ℕ) → Answer ℕ
-bytes (took form next) = gives (length form)
-bytes (stops e) = refuses e
+abbrev pub written : Read (List ℕ) → Answer ℕ
+written (took form next) = gives (length form)
+written (stops e) = refuses e
 
 -- where the row ends; at a refusal, what stood there
 abbrev pub ends : {A : Type 0} → Read A → ℕ → ℕ

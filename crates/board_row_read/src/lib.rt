@@ -2,7 +2,7 @@
 // normal form.
 ghost use mathlib.Core.Path.{_≡_};
 ghost use Rattle.board_answer.specs.Told.{counted, place, after};
-ghost use Rattle.board_row_read.specs.Plain.{needsAt, rowAt, rowRoom, rowValues, normalAt, bytes, normalRoom, ends};
+ghost use Rattle.board_row_read.specs.Plain.{needsAt, rowAt, rowRoom, rowValues, normalAt, written, normalRoom, ends};
 use board_answer::Counted;
 use cursor::Cursor;
 use judge_step::RowJudged;
@@ -39,7 +39,7 @@ pub fn row_read(table: &[u8], row: &[u8], at: usize, room: &mut [u8], values: &m
 
 // The normal form of the row at a place, at the front of the room, and where the row ends.
 pub fn row_normal(table: &[u8], row: &[u8], at: usize, out: &mut [u8], next: &mut u64) -> Counted
-    ensures answer { λ r. ⌜ r ≡ counted (bytes (normalAt (now (table .entry)) (now (row .entry)) at (now (out .entry)))) ⌝ }
+    ensures answer { λ r. ⌜ r ≡ counted (written (normalAt (now (table .entry)) (now (row .entry)) at (now (out .entry)))) ⌝ }
     ensures room { λ _. ⌜ now (out .exit) ≡ normalRoom (now (table .entry)) (now (row .entry)) at (now (out .entry)) ⌝ }
     ensures next { λ _. ⌜ now (next .exit) ≡ ends (normalAt (now (table .entry)) (now (row .entry)) at (now (out .entry))) (now (next .entry)) ⌝ }
 {

@@ -33,7 +33,7 @@ nothing s = rw (le-ltb (length s) 0 zero-le)
 no-names : (s : List ℕ) → names s [] noName noName noName ≡ noNames
 no-names s = rw (nothing s)
 
-pub column-is : (s r : List ℕ) (c : Column) → c ≡ columnMade r noName noName noName → columnTold s c ≡ columnOf r noNames
+column-is : (s r : List ℕ) (c : Column) → c ≡ columnMade r noName noName noName → columnTold s c ≡ columnOf r noNames
 column-is s r c e = ap (columnTold s) e ∙ (column-told s r noName noName noName ∙ ap (columnOf r) (no-names s))
 
 -- ---- written

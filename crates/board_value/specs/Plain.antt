@@ -8,7 +8,7 @@ use Rattle.packed.specs.Packed.{columnOf, noNames}
 use Rattle.packed_slot.specs.Slots.{slotOf}
 use Rattle.packed_value.specs.Numbers.{given, noValue, unless}
 
--- ---- written: numbers that are no value are 3 "before anything else"
+-- ---- written: numbers that are no value are 3 before anything else
 
 abbrev pub valueGiven : List ℕ → List ℕ → List ℕ → Answer (List ℕ)
 valueGiven column value buffer = unless (noValue value) (writeValue (columnOf column noNames) (given buffer value))

@@ -1,4 +1,4 @@
--- `board_column_read::column_read` meets its contract: the record and the names' places of a column that was read, and nothing of a refused one. Assumes nothing.
+-- `board_column_read::column_read` meets its contract: the record of a column that was read and its names' places. Assumes nothing.
 use mathlib.Core.Path.{refl, sym, ap, _∙_, subst}
 use Prim.Native.Nat.{_+_}
 use denote.Ref.{now}

@@ -1,8 +1,6 @@
 -- `board_untyped::untyped_write` meets its contract: numbers that are a value, which the layer below writes. Assumes nothing.
-use mathlib.Core.Path.{_≡_, sym, ap, _∙_}
-use mathlib.Core.Option.{none}
+use mathlib.Core.Path.{sym, ap, _∙_}
 use denote.Ref.{now}
-use Rattle.packed_value.specs.Numbers.{noValue}
 use Rattle.packed_value.specs.Made.{judgedTold}
 use Rattle.board_answer.proofs.Laws.{writes-told, writes-refused}
 use Rattle.board_untyped.proofs.Laws.{untyped-is, untyped-not}
@@ -53,8 +51,8 @@ returns-2 c =
     let after-judge-value = after-judged .before .before in
     let start = after-judge-value .before .before .before .before in
     let a = start .args in
-    let none = sym (ap judgedTold (after-judged .judged .given .1)) ∙ after-judge-value .judge-value .ensures in
-    writes-refused _ _ _ (now (a .out)) (c .refused .ensures) (untyped-not (now (a .value)) (now (a .buffer)) _ none)
+    let not-one = sym (ap judgedTold (after-judged .judged .given .1)) ∙ after-judge-value .judge-value .ensures in
+    writes-refused _ _ _ (now (a .out)) (c .refused .ensures) (untyped-not (now (a .value)) (now (a .buffer)) _ not-one)
 
 pub untyped-write-spec : {M : Type 1} → statement M
 untyped-write-spec =

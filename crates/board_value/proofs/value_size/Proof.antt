@@ -1,8 +1,6 @@
 -- `board_value::value_size` meets its contract: numbers that are a value, and its size under the column of the record. Assumes nothing.
-use mathlib.Core.Path.{_≡_, sym, ap, _∙_}
-use mathlib.Core.Option.{none}
+use mathlib.Core.Path.{sym, ap, _∙_}
 use denote.Ref.{now}
-use Rattle.packed_value.specs.Numbers.{noValue}
 use Rattle.packed_value.specs.Made.{judgedTold}
 use Rattle.board_answer.proofs.Laws.{size-told, size-refused}
 use Rattle.board_value.proofs.Laws.{typed-is, typed-not}
@@ -53,8 +51,8 @@ returns-2 c =
     let after-judge-value = after-judged .before .before in
     let start = after-judge-value .before .before .before in
     let a = start .args in
-    let none = sym (ap judgedTold (after-judged .judged .given .1)) ∙ after-judge-value .judge-value .ensures in
-    size-refused _ _ _ (c .refused .ensures) (typed-not (now (a .value)) (now (a .buffer)) (now (a .column)) _ none)
+    let not-one = sym (ap judgedTold (after-judged .judged .given .1)) ∙ after-judge-value .judge-value .ensures in
+    size-refused _ _ _ (c .refused .ensures) (typed-not (now (a .value)) (now (a .buffer)) (now (a .column)) _ not-one)
 
 pub value-size-spec : {M : Type 1} → statement M
 value-size-spec =

@@ -1,8 +1,6 @@
 -- `board_value::value_write` meets its contract: numbers that are a value, which the layer below writes under the column of the record. Assumes nothing.
-use mathlib.Core.Path.{_≡_, sym, ap, _∙_}
-use mathlib.Core.Option.{none}
+use mathlib.Core.Path.{sym, ap, _∙_}
 use denote.Ref.{now}
-use Rattle.packed_value.specs.Numbers.{noValue}
 use Rattle.packed_value.specs.Made.{judgedTold}
 use Rattle.board_answer.proofs.Laws.{writes-told, writes-refused}
 use Rattle.board_value.proofs.Laws.{typed-is, typed-not}
@@ -57,8 +55,8 @@ returns-2 c =
     let after-judge-value = after-judged .before .before in
     let start = after-judge-value .before .before .before .before in
     let a = start .args in
-    let none = sym (ap judgedTold (after-judged .judged .given .1)) ∙ after-judge-value .judge-value .ensures in
-    writes-refused _ _ _ (now (a .out)) (c .refused .ensures) (typed-not (now (a .value)) (now (a .buffer)) (now (a .column)) _ none)
+    let not-one = sym (ap judgedTold (after-judged .judged .given .1)) ∙ after-judge-value .judge-value .ensures in
+    writes-refused _ _ _ (now (a .out)) (c .refused .ensures) (typed-not (now (a .value)) (now (a .buffer)) (now (a .column)) _ not-one)
 
 pub value-write-spec : {M : Type 1} → statement M
 value-write-spec =
