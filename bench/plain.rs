@@ -349,7 +349,7 @@ pub fn column_write(column: &[u8; 16], names: &[u64; 6], buffer: &[u8], out: &mu
 
 // ---- values
 
-/// A value of a fixed width; its number is its kind's on the wire between the calls.
+/// The kinds of a fixed width, by their numbers.
 #[derive(Clone, Copy, PartialEq, Eq)]
 enum Kind {
     Bit = 1,
