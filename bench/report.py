@@ -135,19 +135,19 @@ def put(page, mark, lines):
 PANELS = (('written', 'write.plp-%d.64K', ''), ('read, 3 chunks', 'read.plp-%d%s.64K', '-in-3'), ('normalised, 3 chunks', 'normal.plp-%d%s.64K', '-in-3'))
 COLOURS = {'codec': '#0b6e4f', 'plain': '#c8553d', 'tiberius': '#6a4c93', 'copy': '#8a8d91'}
 NAMES = {'codec': 'this codec', 'plain': 'plain Rust', 'tiberius': 'tiberius', 'copy': 'block copy'}
-WIDE, HIGH, LEFT, TOP = 250, 260, 60, 40
+WIDE, HIGH, LEFT, TOP = 250, 260, 80, 40
 
 
 def plot(works):
     named = {work.name: work for work in works}
     x = lambda size: LEFT + WIDE * (math.log10(size) - 2) / 2
-    y = lambda time: TOP + HIGH * (6 - math.log10(time)) / 6
-    out = ['<svg xmlns="http://www.w3.org/2000/svg" width="%d" height="%d" font-family="sans-serif" font-size="12">' % (3 * (WIDE + 40) + LEFT, HIGH + 110),
+    y = lambda time: TOP + HIGH * (5 - math.log10(time)) / 5
+    out = ['<svg xmlns="http://www.w3.org/2000/svg" width="%d" height="%d" font-family="sans-serif" font-size="12">' % (3 * (WIDE + 60) + LEFT, HIGH + 110),
            '<rect width="100%" height="100%" fill="white"/>']
     for i, (title, shape, cut) in enumerate(PANELS):
-        out.append('<g transform="translate(%d 0)">' % (i * (WIDE + 40)))
+        out.append('<g transform="translate(%d 0)">' % (i * (WIDE + 60)))
         out.append('<text x="%d" y="24" font-weight="bold">%s</text>' % (LEFT, title))
-        for power in range(7):
+        for power in range(6):
             out.append('<path d="M%d %.1fh%d" stroke="#ddd"/>' % (LEFT, y(10 ** power), WIDE))
             if i == 0:
                 out.append('<text x="%d" y="%.1f" text-anchor="end">%s ns</text>' % (LEFT - 6, y(10 ** power) + 4, format(10 ** power, ',')))
