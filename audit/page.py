@@ -182,14 +182,24 @@ class Page:
                 number, number, inline(demand), ''.join(self.sentence(*entry) for entry in belongs[number])))
         return '<section id="demands"><h2>The three demands</h2>%s</section>' % ''.join(out)
 
-    def public(self):
+    def calls(self, kind):
+        """The rows of docs/PUBLIC.md's table of calls, or of exports: name, definition, contract, edits."""
         out = []
         for _, titles, rows in tables(read('docs/PUBLIC.md')):
-            for row in rows if titles[0] == 'Call' else ():
+            for row in rows if titles[0] == kind else ():
                 parts = ['<div class="part"><h4>%s</h4>%s</div>' % (html.escape(title), self.cell(cell)) for title, cell in zip(titles[1:], row[1:])]
                 out.append('<article class="row" id="%s"><h3>%s</h3><div class="parts">%s</div></article>' % (anchor('call ' + quoted(row[0])[0]), inline(row[0]), ''.join(parts)))
-        front = read('docs/PUBLIC.md').partition('\n| ')[0]
-        return '<section id="public"><h2>The public calls</h2>%s%s</section>' % (markdown.page(front, self.linked), ''.join(out)), len(out)
+        if not out:
+            self.faults.append('docs/PUBLIC.md has no table of its %ss.' % kind.lower())
+        return out
+
+    def public(self):
+        """The public calls and the exports, each with the words before its table; and how many there are."""
+        text, calls, exports = read('docs/PUBLIC.md'), self.calls('Call'), self.calls('Export')
+        before = text.partition('\n| ')[0], text.partition('## The exports\n')[2].partition('\n| ')[0]
+        section = '<section id="%s"><h2>%s</h2>%s%s</section>'
+        return ''.join(section % (place, title, markdown.page(words, self.linked), ''.join(rows)) for place, title, words, rows in (
+            ('public', 'The public calls', before[0], calls), ('exports', 'The exports, for C and Rust', before[1], exports))), len(calls), len(exports)
 
     def gate(self):
         crates, edits, programs = gate.listed(ROOT)
@@ -223,7 +233,7 @@ class Page:
         return '<header id="top"><p class="verdict">%s</p>%s<dl>%s</dl></header>' % (
             html.escape(first), rest and '<ul>%s</ul>' % rest, ''.join('<div><dt>%s</dt><dd>%s</dd></div>' % (name, html.escape(value)) for name, value in facts))
 
-    def side(self, sections, public):
+    def side(self, sections, public, exports):
         def link(place, words):
             return '<a href="#%s">%s</a>' % (place, words)
 
@@ -239,12 +249,12 @@ class Page:
             if heading != 'The demands':
                 out.append(fold('%s <span class="kind">%d</span>' % (html.escape(heading), len(rows)), ''.join(link('s%d' % number, short(row[0])) for number, _, row in rows)))
         out.append('<b>More</b>')
-        out += [link('public', '%d public calls' % public), link('trusted', 'What is trusted'), link('gate', 'What the gate said'), link('edits', 'The must-fail edits'), link('names', 'Every name, with its text')]
+        out += [link('public', '%d public calls' % public), link('exports', '%d exports for C and Rust' % exports), link('trusted', 'What is trusted'), link('gate', 'What the gate said'), link('edits', 'The must-fail edits'), link('names', 'Every name, with its text')]
         return ''.join(out)
 
     def html(self):
         sections = self.sentences()
-        public, calls = self.public()
+        public, calls, exports = self.public()
         chapters = ''.join('<section><h2>%s</h2>%s</section>' % (html.escape(heading), ''.join(self.sentence(*entry) for entry in rows))
                            for heading, rows in sections.items() if heading != 'The demands')
         body = [
@@ -258,6 +268,6 @@ class Page:
             self.gate(),
             '<section id="names"><h2>Every name, with its text</h2>%s</section>' % ''.join('<div class="row" id="%s">%s</div>' % (anchor(word), self.name_fold(word)) for word in sorted(self.known)),
         ]
-        filled = {'STYLE': (HERE / 'style.css').read_text(), 'SCRIPT': (HERE / 'search.js').read_text(), 'SIDE': self.side(sections, calls), 'BODY': '\n'.join(body)}
+        filled = {'STYLE': (HERE / 'style.css').read_text(), 'SCRIPT': (HERE / 'search.js').read_text(), 'SIDE': self.side(sections, calls, exports), 'BODY': '\n'.join(body)}
         filled.update(VERDICT=self.verdict(), COLOUR='red' if self.faults else 'green', TITLE='NOT PROVED: Morelquilt' if self.faults else 'Morelquilt, audited')
         return re.sub(r'\{\{(\w+)\}\}', lambda name: filled[name[1]], (HERE / 'frame.html').read_text())
