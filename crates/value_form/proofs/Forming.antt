@@ -41,7 +41,7 @@ whole-of w s p b l =
     ap (lowBytes w) (signed-forth w (lowNat s) p h) ∙ low-of w s b l
 
 -- but for a bit, the bytes of a value are those that it was read of
-scalar-forth : (k : Kind) (s : List ℕ) → (k ≡ Kind.bit → ⊥) → Bytes s → length s ≡ width k → scalarBytes (scalarOf k s) ≡ s
+pub scalar-forth : (k : Kind) (s : List ℕ) → (k ≡ Kind.bit → ⊥) → Bytes s → length s ≡ width k → scalarBytes (scalarOf k s) ≡ s
 unfolding scalarOf scalarBytes
 scalar-forth Kind.bit s n b l = absurd (n refl)
 scalar-forth Kind.u8 s n b l = low-of 1 s b l
@@ -52,7 +52,7 @@ scalar-forth Kind.f32 s n b l = low-of 4 s b l
 scalar-forth Kind.f64 s n b l = low-of 8 s b l
 scalar-forth Kind.guid s n b l = guid-back s
 
-kind-of : (k : Kind) (s : List ℕ) → kindOf (scalarOf k s) ≡ k
+pub kind-of : (k : Kind) (s : List ℕ) → kindOf (scalarOf k s) ≡ k
 unfolding scalarOf
 kind-of Kind.bit s = refl
 kind-of Kind.u8 s = refl
