@@ -1,5 +1,7 @@
 // A row, judged under a packed table of columns: whether it can be read, where it ends, and what
 // reading it and its normal form need of a room.
+mod inner;
+
 ghost use mathlib.Core.Path.{_≡_};
 ghost use Rattle.format.specs.Answer.{mapRead, readAt};
 ghost use Rattle.format.specs.Row.{readRow};
@@ -8,7 +10,6 @@ ghost use Rattle.packed.specs.Packed.{tableColumns};
 use cursor::Cursor;
 use judge_step::RowJudged;
 use judge_step::inner as turn;
-use packed::inner;
 
 // What the row at the cursor needs, or why it cannot be read.
 pub fn judge_packed(table: &[u8], s: &[u8], cursor: Cursor) -> RowJudged
@@ -19,8 +20,7 @@ pub fn judge_packed(table: &[u8], s: &[u8], cursor: Cursor) -> RowJudged
     let n = turn::turns(state, columns);
     let mut i: usize = 0;
     while i < n {
-        let c = inner::column_at(table, i);
-        state = turn::judge_on(c, s, state);
+        state = inner::judge_at(table, i, s, state);
         i += 1;
     }
     state

@@ -1,5 +1,7 @@
 // The normal form of a row under a packed table of columns: all of it at the front of the room, or
 // nothing.
+mod inner;
+
 ghost use mathlib.Core.Path.{_≡_};
 ghost use mathlib.Core.List.{List};
 ghost use Prim.Native.Nat.{ℕ};
@@ -11,7 +13,6 @@ ghost use Rattle.packed.specs.Packed.{tableColumns};
 use cursor::Cursor;
 use normal_step::Normal;
 use normal_step::inner as turn;
-use packed::inner;
 use value_normal::inner as value;
 
 // The normal form of the row at the cursor: how many bytes it has, and where the row ends.
@@ -25,8 +26,7 @@ pub fn normal_packed(table: &[u8], s: &[u8], cursor: Cursor, out: &mut [u8]) -> 
     let mut run = turn::open_run(fits, cursor);
     let mut i: usize = 0;
     while i < n {
-        let c = inner::column_at(table, i);
-        run = turn::normal_on(out, c, s, run);
+        run = inner::normal_at(out, table, i, s, run);
         i += 1;
     }
     value::close_run(out, s, run);

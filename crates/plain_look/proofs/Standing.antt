@@ -8,18 +8,19 @@ use native.Mathlib.Nat.{add-comm}
 use native.Mathlib.Numerals.{add-one}
 use native.Mathlib.Omega.{arith}
 use lib.Dec.{ltb, eqb}
-use lib.ListN.{length, getD, take}
+use lib.ListN.{length, getD, take, drop, length-drop}
 use lib.Seq.{length-take-le}
 use borrow.Author.Tests.{le-ltb, ne-eqb}
 use Rattle.lists.specs.Pick.{pick}
 use Rattle.lists.proofs.Split.{clash}
-use Rattle.format.specs.Answer.{Read, took, further, thenRead, mapRead}
+use Rattle.format.specs.Answer.{Read, took, further, thenRead, mapRead, readAt}
 use Rattle.format.specs.Number.{readByte, readBytes}
 use Rattle.format.specs.Descriptor.{Column, keepsRule}
 use Rattle.format.specs.Scalar.{Kind, Scalar, width, kindOf, scalarOf, scalarBytes, readScalar}
 use Rattle.format.specs.Value.{Value, readValue, contentOf, isPlp, copiedOut, encode}
 use Rattle.format.proofs.Number.{Bytes}
 use Rattle.format.proofs.Plain.{bytes-take, bytes-drop}
+use Rattle.format.proofs.Place.{at-took}
 use Rattle.value_form.proofs.Forming.{scalar-forth, kind-of}
 use Rattle.packed_plain.specs.Says.{bareColumn, countedColumn, IsBare}
 use Rattle.value_kind.specs.declared.kinds.Kind as K
@@ -169,3 +170,18 @@ module _ (k : K.Kind) where
   counted-width w (x ∷ rest) f e z b l c said n =
       let t : eqb x 0 ≡ false = ne-eqb x 0 (λ q. z (sym f ∙ q)) in
       rw (said .0, t, f, e) (counted-stands (kindTold k) rest (said .1) (bytes-drop 1 (x ∷ rest) b) (omega (arith, l, e)))
+
+-- ---- at a place
+
+module _ (c : Column) (s : List ℕ) (at : ℕ) (v : Value) (n : ℕ) (h : at ≤ length s) (w : Stands c (drop at s) v n) where
+  pub there-at : readAt (readValue c) s at ≡ took v (at + n)
+  there-at = at-took (readValue c) s at v n h (w .read)
+
+  pub ends-inside : at + n ≤ length s
+  ends-inside = omega (arith, w .inside, length-drop at s, h)
+
+  pub length-written : length (encode c v) ≡ n
+  length-written = ap (λ (l : List ℕ). length l) (w .same) ∙ length-take-le n (drop at s) (w .inside)
+
+  pub written-there : mapRead (encode c) (readValue c (drop at s)) ≡ took (take n (drop at s)) n
+  written-there = rw (w .read, w .same)

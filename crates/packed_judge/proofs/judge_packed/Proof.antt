@@ -2,10 +2,10 @@
 -- (`Judged` of judge_step, over the columns that the table's records stand for). Assumes nothing.
 use mathlib.Core.Path.{_≡_, sym, ap, subst, _∙_}
 use mathlib.Core.List.{List, []}
-use Prim.Native.Nat.{ℕ, _≤_, _<_, _-_, zero-le}
+use Prim.Native.Nat.{ℕ, _≤_, _<_, _-_, _*_, zero-le}
 use native.Mathlib.Nat.{le-antisymm}
 use native.Mathlib.Omega.{arith}
-use lib.ListN.{length}
+use lib.ListN.{length, drop}
 use borrow.Author.Needs.{needs}
 use Rattle.format.specs.Answer.{mapRead, readAt}
 use Rattle.format.specs.Descriptor as D
@@ -14,7 +14,7 @@ use Rattle.column_type.specs.declared.Column.{Column}
 use Rattle.judge_step.specs.Told.{needsOf, rowJudgedTold}
 use Rattle.judge_step.specs.Steps.{startOf, turnsOf}
 use Rattle.judge_step.proofs.Judging.{Judged, judging-begins, judging-asks, judging-next, judging-ends, inside}
-use Rattle.packed.specs.Made.{tableMade}
+use Rattle.packed.specs.Made.{columnMade, noName, tableMade}
 use Rattle.packed.proofs.Table.{columns-counted, column-there, column-made}
 use Rattle.packed.proofs.Told.{table-told}
 use Rattle.packed_judge.proofs.judge_packed.Statement.{statement}
@@ -73,22 +73,17 @@ loop-holds c =
     let start = startAt (c .before) in
     (zero-le, λ at e. judging-begins (columns (c .before)) (start .args .s .now) at _ e)
 
-column-at-requires : tie.Need-column-at-requires Inv-loop μ-loop
-column-at-requires c κs =
-    let first = judged (c .before) in
-    let start = startAt first in
-    let i = c .before .loop .i in
-    column-there (start .args .table .now) i
-    (inside (columns first) (start .args .s .now) (start .args .cursor .at) (rowJudgedTold (first .start .result)) i (less c))
-
-judge-on-requires : tie.Need-judge-on-requires Inv-loop μ-loop
-judge-on-requires c κs =
-    let turn = c .before .before in
+judge-at-requires : tie.Need-judge-at-requires Inv-loop μ-loop
+judge-at-requires c κs =
+    let turn = c .before in
     let first = judged turn in
     let start = startAt first in
     let at = start .args .cursor .at in
-    judging-asks (columns first) (start .args .s .now) at (rowJudgedTold (first .start .result)) (turn .loop .i) (rowJudgedTold (turn .loop .state))
-    (less (c .before)) (turn .loop .inv .1 at (begun first))
+    let i = turn .loop .i in
+    let x = rowJudgedTold (first .start .result) in (
+      column-there (start .args .table .now) i (inside (columns first) (start .args .s .now) at x i (less c)),
+      judging-asks (columns first) (start .args .s .now) at x i (rowJudgedTold (turn .loop .state)) (less c) (turn .loop .inv .1 at (begun first)),
+    )
 
 add-i : tie.Need-add-i Inv-loop μ-loop
 add-i c = search needs
@@ -99,17 +94,19 @@ loop-less c = search needs
 loop-again : tie.Need-loop-again Inv-loop μ-loop
 loop-again c =
     let taken = c .before in
-    let turn = taken .before .before in
+    let turn = taken .before in
     let first = judged turn in
     let start = startAt first in
+    let table = start .args .table .now in
+    let s = start .args .s .now in
+    let x = rowJudgedTold (first .start .result) in
     let i = turn .loop .i in
-    let l = less (taken .before) in
-    let there = inside (columns first) (start .args .s .now) (start .args .cursor .at) (rowJudgedTold (first .start .result)) i l in
-    let made = taken .column-at .ensures ∙ column-made (start .args .table .now) i there in (
-      omega (arith, taken .before .loop-test .taken),
+    let l = less taken in
+    let made = column-made table i (inside (columns first) s (start .args .cursor .at) x i l) in (
+      omega (arith, taken .loop-test .taken),
       λ at e.
-          judging-next (columns first) (start .args .s .now) at (rowJudgedTold (first .start .result)) i (rowJudgedTold (turn .loop .state))
-          (rowJudgedTold (c .judge-on .result)) (taken .column-at .result) l (turn .loop .inv .1 at e) made (c .judge-on .ensures),
+          judging-next (columns first) s at x i (rowJudgedTold (turn .loop .state)) (rowJudgedTold (c .judge-at .result)) (columnMade (drop (16 * i) table) noName noName noName)
+          l (turn .loop .inv .1 at e) made (c .judge-at .ensures),
     )
 
 returns : tie.Need-returns Inv-loop μ-loop
@@ -135,8 +132,7 @@ judge-packed-spec =
     start-requires
     turns-requires
     loop-holds
-    column-at-requires
-    judge-on-requires
+    judge-at-requires
     add-i
     loop-less
     loop-again

@@ -2,10 +2,10 @@
 -- (`Copied` of normal_step, over the columns that the table's records stand for). Assumes nothing.
 use mathlib.Core.Path.{_≡_, refl, sym, ap, subst, _∙_}
 use mathlib.Core.List.{List, []}
-use Prim.Native.Nat.{ℕ, _≤_, _<_, _-_, zero-le}
+use Prim.Native.Nat.{ℕ, _≤_, _<_, _-_, _*_, zero-le}
 use native.Mathlib.Nat.{le-antisymm}
 use native.Mathlib.Omega.{arith}
-use lib.ListN.{length, getD}
+use lib.ListN.{length, getD, drop}
 use borrow.Author.Needs.{needs}
 use Rattle.format.specs.Answer.{Read, mapRead, readAt, roomAfterRead}
 use Rattle.format.specs.Descriptor as D
@@ -19,7 +19,7 @@ use Rattle.normal_step.specs.Steps.{turnsOf, openOf}
 use Rattle.normal_step.proofs.Answering.{asked, fit-normal}
 use Rattle.normal_step.proofs.Copying.{Copied, copying-begins, copying-inside, copying-asks, copying-next, copying-closes, copying-ends}
 use Rattle.packed.specs.Packed.{tableColumns}
-use Rattle.packed.specs.Made.{tableMade}
+use Rattle.packed.specs.Made.{columnMade, noName, tableMade}
 use Rattle.packed.proofs.Table.{columns-counted, column-there, column-made}
 use Rattle.packed.proofs.Told.{table-told}
 use Rattle.packed_normal.proofs.normal_packed.Statement.{statement}
@@ -133,22 +133,23 @@ loop-holds c =
           (e ∙ ap (λ (d : Read ℕ). openOf d at) h),
     )
 
-column-at-requires : tie.Need-column-at-requires Inv-loop μ-loop
-column-at-requires c κs = column-there (startAt (found (c .before)) .args .table .now) (c .before .loop .i) (inside c)
-
 -- the column of a turn
-made : (c : tie.After-column-at Inv-loop μ-loop) → c .column-at .result ≡ getD (columns (found (c .before .before))) (c .before .before .loop .i) noColumn
-made c =
-    let f = found (c .before .before) in
-    c .column-at .ensures ∙ column-made (startAt f .args .table .now) (c .before .before .loop .i) (inside (c .before))
+abbrev column : (c : tie.In-loop Inv-loop μ-loop) → Column
+column c = columnMade (drop (16 * c .before .loop .i) (startAt (found (c .before)) .args .table .now)) noName noName noName
 
-normal-on-requires : tie.Need-normal-on-requires Inv-loop μ-loop
-normal-on-requires c κs =
-    let turn = c .before .before .before in
+made : (c : tie.In-loop Inv-loop μ-loop) → column c ≡ getD (columns (found (c .before))) (c .before .loop .i) noColumn
+made c = column-made (startAt (found (c .before)) .args .table .now) (c .before .loop .i) (inside c)
+
+normal-at-requires : tie.Need-normal-at-requires Inv-loop μ-loop
+normal-at-requires c κs =
+    let taken = c .before in
+    let turn = taken .before in
     let f = found turn in
-    let a = startAt f .args in
-    copying-asks (columns f) (a .s .now) (a .cursor .at) (a .out .now) (answer f) (turn .loop .i) (turn .loop .run) (turn .loop .out)
-    (c .before .column-at .result) (less (c .before .before) (answer f) (fitted f)) (copied turn) (made (c .before))
+    let a = startAt f .args in (
+      column-there (a .table .now) (turn .loop .i) (inside taken),
+      copying-asks (columns f) (a .s .now) (a .cursor .at) (a .out .now) (answer f) (turn .loop .i) (turn .loop .run) (turn .loop .out) (column taken)
+          (less taken (answer f) (fitted f)) (copied turn) (made taken),
+    )
 
 add-i : tie.Need-add-i Inv-loop μ-loop
 add-i c = search needs
@@ -160,16 +161,16 @@ loop-again : tie.Need-loop-again Inv-loop μ-loop
 loop-again c =
     let grew = c .before .before in
     let taken = grew .before .before in
-    let turn = taken .before .before in
+    let turn = taken .before in
     let f = found turn in
     let a = startAt f .args in
-    let same = grew .normal-on .kept .0 ∙ turn .loop .inv .1 in (
-      omega (arith, taken .before .loop-test .taken),
+    let same = grew .normal-at .kept .0 ∙ turn .loop .inv .1 in (
+      omega (arith, taken .loop-test .taken),
       same,
       λ at h e.
-          copying-next (columns f) (a .s .now) at (a .out .now) (form (a .table .now) (a .s .now) at (length (a .out .now))) (turn .loop .i)
-          (turn .loop .run) (grew .normal-on .result) (turn .loop .out) (grew .normal-on .last .0) (taken .column-at .result)
-          (less (taken .before) (form (a .table .now) (a .s .now) at (length (a .out .now))) h) (turn .loop .inv .2 at h e) (made taken) same (grew .normal-on .ensures),
+          let asked-at = form (a .table .now) (a .s .now) at (length (a .out .now)) in
+          copying-next (columns f) (a .s .now) at (a .out .now) asked-at (turn .loop .i) (turn .loop .run) (grew .normal-at .result) (turn .loop .out)
+          (grew .normal-at .last .0) (column taken) (less taken asked-at h) (turn .loop .inv .2 at h e) (made taken) same (grew .normal-at .ensures),
     )
 
 close-run-requires : tie.Need-close-run-requires Inv-loop μ-loop
@@ -210,8 +211,7 @@ normal-packed-spec =
     turns-requires
     open-run-requires
     loop-holds
-    column-at-requires
-    normal-on-requires
+    normal-at-requires
     add-i
     loop-less
     loop-again
