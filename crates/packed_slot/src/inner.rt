@@ -1,7 +1,8 @@
 // The numbers of a value that was found, for the crates of this repository.
 ghost use mathlib.Core.Path.{_≡_};
 ghost use mathlib.Core.List.{[], _∷_};
-ghost use Rattle.format.specs.Number.{unsigned};
+ghost use Prim.Native.Nat.{_<_};
+ghost use Rattle.format.specs.Number.{signed, unsigned};
 ghost use Rattle.value_kind.specs.Told.{scalarTold, Canonical};
 ghost use Rattle.value_found.specs.Told.{standTold, foundTold, CanonicalFound};
 ghost use Rattle.packed_slot.specs.Slots.{scalarSlot, contentSlot, slotOf, slotTold};
@@ -12,30 +13,44 @@ use value_found::Stand;
 use value_kind::Scalar;
 use value_kind::kinds;
 
+// The integer of two bytes whose bits these are, in 64 bits.
+pub fn widen_two(n: u64) -> u64
+    requires { ⌜ n < 65536 ⌝ }
+    ensures { λ r. ⌜ r ≡ unsigned 8 (signed 2 n) ⌝ }
+{
+    if n < 32768 {
+        return n;
+    }
+    n + 18446744073709486080
+}
+
+// Of four bytes.
+pub fn widen_four(n: u64) -> u64
+    requires { ⌜ n < 4294967296 ⌝ }
+    ensures { λ r. ⌜ r ≡ unsigned 8 (signed 4 n) ⌝ }
+{
+    if n < 2147483648 {
+        return n;
+    }
+    n + 18446744069414584320
+}
+
 // An integer of two bytes in 64 bits.
 fn wide16(z: i16) -> u64
     ensures { λ r. ⌜ r ≡ unsigned 8 z ⌝ }
 {
-    let low = signed::of_i16(z) as u64;
-    if low < 32768 {
-        return low;
-    }
-    low + 18446744073709486080
+    widen_two(signed::of_i16(z) as u64)
 }
 
 // Of four bytes.
 fn wide32(z: i32) -> u64
     ensures { λ r. ⌜ r ≡ unsigned 8 z ⌝ }
 {
-    let low = signed::of_i32(z) as u64;
-    if low < 2147483648 {
-        return low;
-    }
-    low + 18446744069414584320
+    widen_four(signed::of_i32(z) as u64)
 }
 
 // A kind's number and one more.
-fn one(kind: u64, first: u64) -> Slot
+pub fn one(kind: u64, first: u64) -> Slot
     ensures { λ r. ⌜ slotTold r ≡ kind ∷ first ∷ 0 ∷ [] ⌝ }
 {
     Slot {

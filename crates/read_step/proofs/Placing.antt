@@ -22,6 +22,7 @@ use Rattle.format.specs.Found as F
 use Rattle.format.proofs.Place.{past, took-at}
 use Rattle.value_kind.proofs.ColumnLaws.{read-kept}
 use Rattle.value_found.specs.Told.{foundBehind, roomBehind}
+use Rattle.row_place.specs.Told.{Placed, placedOf}
 use Rattle.read_step.specs.Told.{Place}
 use Rattle.read_step.specs.Steps.{inRoom, roomCount, copiedIn, placeBehind, FitsAt}
 
@@ -112,12 +113,27 @@ module _ (c : D.Column) (s out : List ℕ) (at copied : ℕ) (fits : FitsAt c (r
       pub count-fits : copied + roomCount found ≤ length out
       count-fits = omega (arith, count-there, there .room)
 
-      pub place-there : _≡_ {A = Place} (record { at = next; copied = copied + roomCount found })
-          (placeBehind c (readAt (readValue c) s at) (record { at = at; copied = copied }))
-      place-there =
+      pub placed-there : took (record { found = found; copied = copied + roomCount found }) next ≡ mapRead (placedOf c at copied) (readAt (readValue c) s at)
+      placed-there =
           let e : next ≡ there .next = cc (h ∙ found-there) in
-          rw (there .read, e, count-there)
+          let f : found ≡ F.foundOf c at copied (there .value) = cc (h ∙ found-there) in
+          rw (there .read, e, count-there, f)
 
     pub room-holds : (after : List ℕ) → after ≡ roomBehind c (readFamily declared f rest) at copied out
         → after ≡ putAt out copied (copiedIn c (readAt (readValue c) s at))
     room-holds after h = h ∙ (room-there ∙ rw (there .read))
+
+-- the place behind a value that was taken
+pub place-behind : (c : D.Column) (at copied : ℕ) (r : Read Value) (p : Placed) (next : ℕ) → took p next ≡ mapRead (placedOf c at copied) r
+    → _≡_ {A = Place} (record { at = next; copied = p .copied }) (placeBehind c r (record { at = at; copied = copied }))
+place-behind c at copied (took v n) p next h =
+    let e : next ≡ n = cc in
+    let f : p ≡ placedOf c at copied v = cc in
+    rw (e, f)
+place-behind c at copied (stops e) p next h = clash cc
+
+-- none is refused
+pub never-refused : {P : Type 0} (c : D.Column) (at copied size : ℕ) (r : Read Value) (e : Refusal) → FitsAt c r copied size
+    → stops e ≡ mapRead (placedOf c at copied) r → P
+never-refused c at copied size (took v n) e f h = clash cc
+never-refused c at copied size (stops x) e f h = absurd f

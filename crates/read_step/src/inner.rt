@@ -8,6 +8,7 @@ ghost use Rattle.format.specs.Answer.{mapRead, readAt};
 ghost use Rattle.format.specs.Value.{readValue};
 ghost use Rattle.column_type.specs.Told.{columnTold};
 ghost use Rattle.value_found.specs.Told.{standTold, foundTold};
+ghost use Rattle.row_place.specs.Told.{placedOf, rowValueTold, CanonicalPlaced};
 ghost use Rattle.judge_step.specs.Told.{rowJudgedTold};
 ghost use Rattle.read_step.specs.Told.{firstPlace, placeTold, rowReadTold};
 ghost use Rattle.read_step.specs.Steps.{fitIn, turnsOf, inRoom, roomCount, FitsAt, copiedIn, placeBehind};
@@ -16,6 +17,7 @@ use column_type::Column;
 use cursor::Cursor;
 use judge_step::RowJudged;
 use row_place::RowPlace;
+use row_place::RowValue;
 use value_found::Found;
 use value_found::Stand;
 use value_found::ValueRead;
@@ -96,12 +98,13 @@ fn copied_of(found: Found) -> usize
     }
 }
 
-// One value more: PLP content goes into the room behind what was copied before. It hands back the
-// next place.
-pub fn join_on(out: &mut [u8], c: Column, s: &[u8], place: RowPlace) -> RowPlace
+// The value of a column, its PLP content put into the room behind what was copied before, and the
+// next place. The row was judged before, so that nothing is refused.
+pub fn take_on(out: &mut [u8], c: Column, s: &[u8], place: RowPlace) -> RowValue
     requires { ⌜ ((b : List ℕ) → FitsAt (columnTold b c) (readAt (readValue (columnTold b c)) (now s) (place .cursor .at)) (place .copied) (length (now out))) ⌝ }
-    ensures { λ r. ⌜ ((b : List ℕ) → (placeTold r ≡ placeBehind (columnTold b c) (readAt (readValue (columnTold b c)) (now (s .entry)) (place .cursor .at)) (placeTold place))
-        × (now (out .exit) ≡ putAt (now (out .entry)) (place .copied) (copiedIn (columnTold b c) (readAt (readValue (columnTold b c)) (now (s .entry)) (place .cursor .at))))) ⌝ }
+    ensures told { λ r. ⌜ ((b : List ℕ) → rowValueTold r ≡ mapRead (placedOf (columnTold b c) (place .cursor .at) (place .copied)) (readAt (readValue (columnTold b c)) (now (s .entry)) (place .cursor .at))) ⌝ }
+    ensures canonical { λ r. ⌜ CanonicalPlaced r ⌝ }
+    ensures room { λ _. ⌜ ((b : List ℕ) → now (out .exit) ≡ putAt (now (out .entry)) (place .copied) (copiedIn (columnTold b c) (readAt (readValue (columnTold b c)) (now (s .entry)) (place .cursor .at)))) ⌝ }
 {
     let at = place.cursor.at;
     let copied = place.copied;
@@ -115,10 +118,28 @@ pub fn join_on(out: &mut [u8], c: Column, s: &[u8], place: RowPlace) -> RowPlace
         out,
     );
     match read {
-        ValueRead::Value(found, next) => RowPlace {
-            cursor: Cursor { at: next.at },
-            copied: copied + copied_of(found),
-        },
-        ValueRead::Refused(_) => place,
+        ValueRead::Value(found, next) => {
+            RowValue::Value(
+                found,
+                RowPlace {
+                    cursor: Cursor { at: next.at },
+                    copied: copied + copied_of(found),
+                },
+            )
+        }
+        ValueRead::Refused(e) => RowValue::Refused(e),
+    }
+}
+
+// One value more: only its content is wanted, and the next place.
+pub fn join_on(out: &mut [u8], c: Column, s: &[u8], place: RowPlace) -> RowPlace
+    requires { ⌜ ((b : List ℕ) → FitsAt (columnTold b c) (readAt (readValue (columnTold b c)) (now s) (place .cursor .at)) (place .copied) (length (now out))) ⌝ }
+    ensures { λ r. ⌜ ((b : List ℕ) → (placeTold r ≡ placeBehind (columnTold b c) (readAt (readValue (columnTold b c)) (now (s .entry)) (place .cursor .at)) (placeTold place))
+        × (now (out .exit) ≡ putAt (now (out .entry)) (place .copied) (copiedIn (columnTold b c) (readAt (readValue (columnTold b c)) (now (s .entry)) (place .cursor .at))))) ⌝ }
+{
+    let taken = take_on(out, c, s, place);
+    match taken {
+        RowValue::Value(_, next) => next,
+        RowValue::Refused(_) => place,
     }
 }

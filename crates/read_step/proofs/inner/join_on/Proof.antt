@@ -1,79 +1,25 @@
--- `read_step::inner::join_on` meets its contract: the value's reader, lent the room and told what was copied before, puts the content there. It is not refused,
--- since the value is there and its content fits. Assumes nothing.
-use mathlib.Core.Path.{_≡_, refl, sym, ap, _∙_}
-use mathlib.Core.List.{List, []}
-use Prim.Native.Nat.{ℕ, _≤_}
-use native.Mathlib.Omega.{arith}
-use lib.ListN.{length, length-drop}
-use Rattle.lists.proofs.Lent.{rest-is}
-use Rattle.format.specs.Descriptor as D
+-- `read_step::inner::join_on` meets its contract: what was taken, without the value. Assumes nothing.
+use mathlib.Core.Path.{sym, ap, _∙_}
+use mathlib.Core.List.{[]}
+use lib.ListN.{length}
+use Rattle.format.specs.Answer.{readAt}
+use Rattle.format.specs.Value.{readValue}
 use Rattle.column_type.specs.Told.{columnTold}
-use Rattle.value_kind.proofs.ColumnLaws.{length-fits}
-use Rattle.value_found.specs.declared.ValueRead.{ValueRead}
-use Rattle.value_found.specs.Told.{valueReadTold}
-use Rattle.read_step.proofs.Placing.{is-inside, is-kept, is-room, not-refused, count-fits, place-there, room-holds}
+use Rattle.row_place.specs.Told.{rowValueTold}
+use Rattle.read_step.proofs.Placing.{place-behind, never-refused}
 use borrow.Author.Needs.{needs}
 use Rattle.read_step.proofs.inner.join_on.Statement.{statement}
 use Rattle.read_step.proofs.inner.join_on.Tie as tie
 
--- where the value's reader was called, and the start
-abbrev named : tie.After-read-in → tie.After-family-of
-named c = c .before .before .before .before
+-- where the value was taken
+abbrev start : tie.After-take-on → tie.Start
+start c = c .before .before .before .before
 
-abbrev start : tie.After-family-of → tie.Start
-start c = c .before .before .before
+take-on-requires : tie.Need-take-on-requires
+take-on-requires c κs = search needs
 
--- the column, its names parts of a buffer
-abbrev column : tie.Start → List ℕ → D.Column
-column z b = columnTold b (z .args .c)
-
--- the place is inside, the rule is kept, and what was copied before lies in the room
-inside : (z : tie.Start) → z .args .place .cursor .at ≤ length (z .args .s .now)
-inside z = is-inside (column z []) (z .args .s .now) (z .args .out .now) (z .args .place .cursor .at) (z .args .place .copied) (z .pre [])
-
-room : (z : tie.Start) → z .args .place .copied ≤ length (z .args .out .now)
-room z = is-room (column z []) (z .args .s .now) (z .args .out .now) (z .args .place .cursor .at) (z .args .place .copied) (z .pre [])
-
--- what an equation says
-abbrev meant : {A : Type 0} {x y : A} → x ≡ y → A
-meant {A} {x} {y} e = y
-
--- what was read, told of the column
-told : (c : tie.After-read-in) (x : ValueRead) → c .read-in .result ≡ x → (b : List ℕ) →
-    let z = start (named c) in
-    valueReadTold x ≡ meant (c .read-in .ensures .0 (column z b) refl)
-told c x e b = ap valueReadTold (sym e) ∙ c .read-in .ensures .0 (column (start (named c)) b) refl
-
-family-of-requires : tie.Need-family-of-requires
-family-of-requires c κs = search needs
-
-cast-read-in : tie.Need-cast-read-in
-cast-read-in c =
-    let z = start (c .before) in
-    let a = z .args in
-    let k = is-kept (column z []) (a .s .now) (a .out .now) (a .place .cursor .at) (a .place .copied) (z .pre []) in
-    record { fits = omega (arith, length-fits (column z []) k) }
-
-sub-read-in : tie.Need-sub-read-in
-sub-read-in c = omega (arith, inside (start (c .before)))
-
-part-read-in-start : tie.Need-part-read-in-start
-part-read-in-start c = omega (arith, inside (start (c .before)))
-
-part-read-in-end : tie.Need-part-read-in-end
-part-read-in-end c = search needs
-
-read-in-requires : tie.Need-read-in-requires
-read-in-requires c κs =
-    let z = start (c .before .before .before) in
-    let l = ap length (rest-is (z .args .s .now) (z .args .place .cursor .at)) in
-    (omega (arith, z .good, inside z, l, length-drop (z .args .place .cursor .at) (z .args .s .now)), omega (arith, room z))
-
-enum-known-read : tie.Need-enum-known-read
-enum-known-read c = search needs
-
-copied-of-requires : tie.Need-copied-of-requires
-copied-of-requires c κs = search needs
+enum-known-taken : tie.Need-enum-known-taken
+enum-known-taken c = search needs
 
 enum-told : tie.Need-enum-told
 enum-told c = search needs
@@ -83,19 +29,14 @@ same-length c = search needs
 
 returns : tie.Need-returns
 returns c =
-    let read = c .before .before in
-    let call = read .before .before .before .before in
-    let z = start (named call) in
-    let a = z .args in
-    let f = named call .family-of .ensures in
-    let r = rest-is (a .s .now) (a .place .cursor .at) in
+    let known = c .before in
+    let call = known .before .before .before .before in
+    let a = start call .args in
     λ b.
-    let d = column z b in
-    let e = told call _ (read .read .given .1) b in
-    let p = place-there d (a .s .now) (a .out .now) (a .place .cursor .at) (a .place .copied) (z .pre b) _ _ _ refl f r _ _ e in
-    let g = call .read-in .ensures .1 .1 d refl in
-    let w = room-holds d (a .s .now) (a .out .now) (a .place .cursor .at) (a .place .copied) (z .pre b) _ _ _ refl f r _ g in
-    (rw (c .copied-of .ensures) p, w)
+    let d = columnTold b (a .c) in
+    let at = a .place .cursor .at in
+    let told = ap rowValueTold (sym (known .taken .given .1)) ∙ call .take-on .ensures .0 b in
+    (place-behind d at (a .place .copied) (readAt (readValue d) (a .s .now) at) _ _ told, call .take-on .ensures .1 .1 b)
 
 same-length-2 : tie.Need-same-length-2
 same-length-2 c = search needs
@@ -103,38 +44,19 @@ same-length-2 c = search needs
 returns-2 : tie.Need-returns-2
 returns-2 c =
     let call = c .before .before .before .before in
-    let z = start (named call) in
+    let z = start call in
     let a = z .args in
-    let f = named call .family-of .ensures in
-    let r = rest-is (a .s .now) (a .place .cursor .at) in
-    let e = told call _ (c .enum-told .given .1) [] in
-    not-refused (column z []) (a .s .now) (a .out .now) (a .place .cursor .at) (a .place .copied) (z .pre []) _ _ _ refl f r _ e
-
-add-t22 : tie.Need-add-t22
-add-t22 c =
-    let read = c .before .before in
-    let call = read .before .before .before .before in
-    let z = start (named call) in
-    let a = z .args in
-    let f = named call .family-of .ensures in
-    let r = rest-is (a .s .now) (a .place .cursor .at) in
-    let e = told call _ (read .read .given .1) [] in
-    let m = count-fits (column z []) (a .s .now) (a .out .now) (a .place .cursor .at) (a .place .copied) (z .pre []) _ _ _ refl f r _ _ e in
-    record { fits = omega (arith, m, c .copied-of .ensures, z .good) }
+    let d = columnTold [] (a .c) in
+    let at = a .place .cursor .at in
+    let told = ap rowValueTold (sym (c .enum-told .given .1)) ∙ call .take-on .ensures .0 [] in
+    never-refused d at (a .place .copied) (length (a .out .now)) (readAt (readValue d) (a .s .now) at) _ (z .pre []) told
 
 pub join-on-spec : {M : Type 1} → statement M
 join-on-spec =
     tie.close
     (tie.spec
-    family-of-requires
-    cast-read-in
-    sub-read-in
-    part-read-in-start
-    part-read-in-end
-    read-in-requires
-    enum-known-read
-    copied-of-requires
-    add-t22
+    take-on-requires
+    enum-known-taken
     enum-told
     same-length
     returns

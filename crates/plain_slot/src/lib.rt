@@ -1,0 +1,2 @@
+// The three numbers of a value of one width, straight from its bytes. No value is made.
+pub mod inner;
