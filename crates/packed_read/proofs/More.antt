@@ -3,7 +3,7 @@
 -- Assumes nothing.
 use mathlib.Core.Path.{_≡_, refl, sym, ap, _∙_}
 use mathlib.Core.List.{List, [], _∷_, _++_}
-use Prim.Native.Nat.{ℕ, _*_, _+_, _/_}
+use Prim.Native.Nat.{ℕ, _*_, _+_}
 use lib.Dec.{ltb}
 use lib.ListN.{length, drop}
 use Rattle.lists.proofs.Split.{clash}
@@ -33,7 +33,7 @@ found-more (d ∷ ds) s more at copied vs next h =
 
 -- a row whose numbers have place was read
 slotted-took : (n numbers : ℕ) (r : Read (List Value)) (vs : List Value) (next : ℕ) → slotted n numbers r ≡ took vs next → r ≡ took vs next
-slotted-took n numbers (took ws m) vs next h = past (ltb (numbers / 3) n) room (took ws m) vs next h .1
+slotted-took n numbers (took ws m) vs next h = past (ltb numbers (3 * n)) room (took ws m) vs next h .1
 slotted-took n numbers (stops e) vs next h = h
 
 module _ (cs : List D.Column) (s more : List ℕ) (at size numbers : ℕ) (h : rowOut cs s at size numbers ≡ stops missing → ⊥) where

@@ -1,5 +1,5 @@
 -- A row read into a room and a list of numbers, in the words of `format`.
-use Prim.Native.Nat.{ℕ, _*_, _/_}
+use Prim.Native.Nat.{ℕ, _*_}
 use mathlib.Core.List.{List, _++_}
 use lib.Dec.{ltb}
 use lib.ListN.{length, drop}
@@ -12,7 +12,7 @@ use Rattle.packed_slot.specs.Slots.{slotsOf}
 
 -- A list of numbers too short for three a column is 4, last of all.
 abbrev pub slotted : {A : Type 0} → ℕ → ℕ → Read A → Read A
-slotted columns numbers (took v next) = stopIf (ltb (numbers / 3) columns) room (took v next)
+slotted columns numbers (took v next) = stopIf (ltb numbers (3 * columns)) room (took v next)
 slotted columns numbers (stops e) = stops e
 
 -- the row, where what it copies out fits the room and its values' numbers the list

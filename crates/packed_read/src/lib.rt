@@ -10,7 +10,6 @@ ghost use Rattle.packed.specs.Packed.{tableColumns};
 ghost use Rattle.packed_read.specs.Told.{slotted, rowOut, valuesAfter};
 use cursor::Cursor;
 use judge_step::RowJudged;
-use packed::inner;
 use read_step::inner as turn;
 use wire::Refusal;
 
@@ -26,21 +25,6 @@ fn place_for(judged: RowJudged, columns: usize, numbers: usize) -> RowJudged
             RowJudged::Row(row)
         }
         RowJudged::Refused(earlier) => RowJudged::Refused(earlier),
-    }
-}
-
-// What a row that fits copies out, at the front of the room; at a refusal nothing.
-fn join(out: &mut [u8], table: &[u8], s: &[u8], cursor: Cursor, fits: RowJudged)
-    requires { ⌜ rowJudgedTold fits ≡ mapRead (needsOf (tableColumns (now table))) (fittedRead (copiedOutRow (tableColumns (now table))) (readAt (readRow (tableColumns (now table))) (now s) (cursor .at)) (length (now out))) ⌝ }
-    ensures { λ _. ⌜ now (out .exit) ≡ roomAfterRead (copiedOutRow (tableColumns (now (table .entry)))) (fittedRead (copiedOutRow (tableColumns (now (table .entry)))) (readAt (readRow (tableColumns (now (table .entry)))) (now (s .entry)) (cursor .at)) (length (now (out .entry)))) (now (out .entry)) ⌝ }
-{
-    let n = turn::turns(fits, packed::records(table));
-    let mut place = turn::first(cursor);
-    let mut i: usize = 0;
-    while i < n {
-        let c = inner::column_at(table, i);
-        place = turn::join_on(out, c, s, place);
-        i += 1;
     }
 }
 
@@ -63,8 +47,7 @@ pub fn read_packed(
     let placed = place_for(fits, columns, values.len());
     match placed {
         RowJudged::Row(row) => {
-            join(out, table, s, cursor, RowJudged::Row(row));
-            packed_slots::inner::put_values(values, table, s, cursor);
+            packed_slots::inner::take_values(out, values, table, s, cursor);
             RowJudged::Row(row)
         }
         RowJudged::Refused(e) => RowJudged::Refused(e),

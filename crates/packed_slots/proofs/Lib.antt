@@ -1,1 +1,2 @@
 pub mod Slotting
+pub mod Taking

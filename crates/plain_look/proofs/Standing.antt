@@ -158,18 +158,22 @@ never p rest c said n = absurd (n refl)
 
 module _ (k : K.Kind) where
   pub bare-width : (w : ℕ) (rest : List ℕ) → w ≡ width (kindTold k) → Bytes rest → w ≤ length rest → IsWidth (P.Bare k) rest w
-  bare-width w rest e b h c said n = rw (said .0, e) (bare-stands (kindTold k) rest (said .1) b (rw e at h))
+  bare-width w rest e b h c said n =
+      let l : width (kindTold k) ≤ length rest = rw e at h in
+      (rw (said .0, e) (bare-stands (kindTold k) rest (said .1) b l), (l, said .1 .1))
 
   pub null-width : (rest : List ℕ) → 0 < length rest → getD rest 0 0 ≡ 0 → IsWidth (P.Counted k) rest 1
   null-width [] l e c said n = absurd (omega (arith, l))
-  null-width (x ∷ rest) l e c said n = rw (said .0, e) (null-stands (kindTold k) rest)
+  null-width (x ∷ rest) l e c said n = (rw (said .0, e) (null-stands (kindTold k) rest), (l, λ z. absurd (z e), said .1))
 
   pub counted-width : (w : ℕ) (rest : List ℕ) → getD rest 0 0 ≡ w → w ≡ width (kindTold k) → (w ≡ 0 → ⊥) → Bytes rest → w < length rest
       → IsWidth (P.Counted k) rest (1 + w)
   counted-width w [] f e z b l c said n = absurd (omega (arith, l))
   counted-width w (x ∷ rest) f e z b l c said n =
-      let t : eqb x 0 ≡ false = ne-eqb x 0 (λ q. z (sym f ∙ q)) in
-      rw (said .0, t, f, e) (counted-stands (kindTold k) rest (said .1) (bytes-drop 1 (x ∷ rest) b) (omega (arith, l, e)))
+      let t : eqb x 0 ≡ false = ne-eqb x 0 (λ q. z (sym f ∙ q)) in (
+        rw (said .0, t, f, e) (counted-stands (kindTold k) rest (said .1) (bytes-drop 1 (x ∷ rest) b) (omega (arith, l, e))),
+        (omega (arith, l), λ _. omega (arith, l, e), said .1),
+      )
 
 -- ---- at a place
 

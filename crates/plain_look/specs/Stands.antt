@@ -1,5 +1,5 @@
 -- A value of one width that is there: what was read, how many bytes it took, and that they are the bytes that are written for it.
-use Prim.Native.Nat.{ℕ, _≤_}
+use Prim.Native.Nat.{ℕ, _+_, _<_, _≤_}
 use mathlib.Core.Path.{_≡_}
 use mathlib.Core.List.{List, []}
 use lib.Dec.{eqb}
@@ -30,9 +30,15 @@ valueIn (P.Bare k) rest = scalarIn (kindTold k) rest
 valueIn (P.Counted k) rest = pick (eqb (getD rest 0 0) 0) Value.null (scalarIn (kindTold k) (drop 1 rest))
 valueIn P.Other rest = Value.null
 
+-- its bytes are there, and it is no bit
+abbrev pub HasBytes : Plain → List ℕ → Type 0
+HasBytes (P.Bare k) rest = (width (kindTold k) ≤ length rest) × (kindTold k ≡ Kind.bit → ⊥)
+HasBytes (P.Counted k) rest = (0 < length rest) × ((getD rest 0 0 ≡ 0 → ⊥) → 1 + width (kindTold k) ≤ length rest) × (kindTold k ≡ Kind.bit → ⊥)
+HasBytes P.Other rest = Unit {0}
+
 -- A count that is not 0 is the value's.
 abbrev pub IsWidth : Plain → List ℕ → ℕ → Type 0
-IsWidth p rest n = (c : Column) → Says p c → (n ≡ 0 → ⊥) → Stands c rest (valueIn p rest) n
+IsWidth p rest n = (c : Column) → Says p c → (n ≡ 0 → ⊥) → (Stands c rest (valueIn p rest) n × HasBytes p rest)
 
 abbrev pub IsWidthIn : Column → List ℕ → ℕ → Type 0
 IsWidthIn c rest n = (n ≡ 0 → ⊥) → ((v : Value) × Stands c rest v n)

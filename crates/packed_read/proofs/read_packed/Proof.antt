@@ -16,7 +16,7 @@ use Rattle.packed.specs.Made.{tableMade}
 use Rattle.packed.proofs.Table.{columns-counted}
 use Rattle.packed.proofs.Told.{table-told}
 use Rattle.packed_read.specs.Told.{slotted, rowOut}
-use Rattle.packed_read.proofs.Reading.{read, slotted-map, fits, readable, room-kept, values-kept}
+use Rattle.packed_read.proofs.Reading.{read, slotted-map, Fits, fits, row-read, readable, room-kept, values-kept}
 use borrow.Author.Needs.{needs}
 use Rattle.packed_read.proofs.read_packed.Statement.{statement}
 use Rattle.packed_read.proofs.read_packed.Tie as tie
@@ -62,25 +62,22 @@ place-for-requires c κs = search needs
 enum-known-placed : tie.Need-enum-known-placed
 enum-known-placed c = search needs
 
-join-requires : tie.Need-join-requires
-join-requires c κs =
-    let known = c .before .before in
-    let p = known .before .before in
+-- the row, where it was found to fit
+fitting : (c : tie.After-placed) →
+    let a = startAt (c .before .before) .args in
+    Fits (tableColumns (a .table .now)) (a .s .now) (a .cursor .at) (length (a .out .now)) (length (a .values .now))
+fitting c =
+    let p = c .before .before in
     let a = startAt p .args in
-    let cs = tableColumns (a .table .now) in
-    let told = ap rowJudgedTold (sym (known .placed .given .1)) ∙ judged p in
-    let f = fits cs (a .s .now) (a .cursor .at) (length (a .out .now)) (length (a .values .now)) _ _ told in
-    told ∙ ap (mapRead (needsOf cs)) (f .same ∙ sym (f .is))
+    fits (tableColumns (a .table .now)) (a .s .now) (a .cursor .at) (length (a .out .now)) (length (a .values .now)) _ _
+    (ap rowJudgedTold (sym (c .placed .given .1)) ∙ judged p)
 
-put-values-requires : tie.Need-put-values-requires
-put-values-requires c κs =
-    let known = c .before .before .before .before .before .before in
-    let p = known .before .before in
-    let a = startAt p .args in
-    let cs = tableColumns (a .table .now) in
-    let told = ap rowJudgedTold (sym (known .placed .given .1)) ∙ judged p in
-    let f = fits cs (a .s .now) (a .cursor .at) (length (a .out .now)) (length (a .values .now)) _ _ told in
-    (readable cs (a .s .now) (a .cursor .at) (length (a .out .now)) (length (a .values .now)) f (omega (arith, startAt p .good)), f .place)
+take-values-requires : tie.Need-take-values-requires
+take-values-requires c κs =
+    let known = c .before .before .before in
+    let a = startAt (known .before .before) .args in
+    let f = fitting known in
+    (readable (tableColumns (a .table .now)) (a .s .now) (a .cursor .at) (length (a .out .now)) (length (a .values .now)) f, f .place)
 
 enum-known-placed-2 : tie.Need-enum-known-placed-2
 enum-known-placed-2 c = search needs
@@ -93,16 +90,16 @@ same-length-2 c = search needs
 
 returns : tie.Need-returns
 returns c =
-    let put = c .before .before in
-    let joined = put .before .before .before .before in
-    let known = joined .before .before .before in
+    let put = c .before .before .before .before in
+    let known = put .before .before .before .before in
     let p = known .before .before in
     let a = startAt p .args in
     let cs = tableColumns (a .table .now) in
-    let told = ap rowJudgedTold (sym (known .placed .given .1)) ∙ judged p in
-    let f = fits cs (a .s .now) (a .cursor .at) (length (a .out .now)) (length (a .values .now)) _ _ told in
-    let same = f .same ∙ sym (f .is) in
-    (told, (rw same (joined .join .ensures), rw (f .same) (put .put-values .ensures)))
+    let f = fitting known in
+    let row = row-read cs (a .s .now) (a .cursor .at) (length (a .out .now)) (length (a .values .now)) f in (
+      ap rowJudgedTold (sym (known .placed .given .1)) ∙ judged p,
+      (rw (f .same, ← row) (put .take-values .ensures .0), rw (f .same) (put .take-values .ensures .1)),
+    )
 
 returns-2 : tie.Need-returns-2
 returns-2 c =
@@ -129,8 +126,7 @@ read-packed-spec =
     records-requires
     place-for-requires
     enum-known-placed
-    join-requires
-    put-values-requires
+    take-values-requires
     enum-known-placed-2
     same-length
     same-length-2

@@ -18,7 +18,7 @@ returns c n =
     let told = c .before in
     let a = told .before .before .before .args in
     let record-at = columnOf (drop (16 * a .i) (a .table .now)) noNames in
-    (valueIn (told .plain-at .result) (drop (a .at) (a .s .now)), c .width-in .ensures record-at (told .plain-at .ensures) n)
+    (valueIn (told .plain-at .result) (drop (a .at) (a .s .now)), c .width-in .ensures record-at (told .plain-at .ensures) n .0)
 
 pub width-at-spec : {M : Type 1} → statement M
 width-at-spec = tie.close (tie.spec plain-at-requires width-in-requires returns)
