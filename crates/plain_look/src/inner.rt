@@ -55,11 +55,14 @@ pub fn width_in(p: Plain, s: &[u8], at: usize) -> usize
     }
 }
 
-// The value at a place, under the column of the record at i.
+// The value at a place, under the column of the record at i; the most common record first.
 pub fn width_at(table: &[u8], i: usize, s: &[u8], at: usize) -> usize
     requires { ⌜ (16 * i < length (now table)) × (at ≤ length (now s)) ⌝ }
     ensures { λ r. ⌜ IsWidthIn (columnOf (drop (16 * i) (now (table .entry))) noNames) (drop at (now (s .entry))) r ⌝ }
 {
+    if packed_plain::inner::is_int4(table, i) {
+        return counted(Kind::I32, s, at);
+    }
     let p = packed_plain::inner::plain_at(table, i);
     width_in(p, s, at)
 }
