@@ -8,6 +8,7 @@
 - A module `inner`, whose functions may ask something of their caller, says at its head for whom it is: for the crates of
   this repository, and one of them uses it, or for its crate alone.
 - Every must-fail edit changes lines that are there.
+- No line of a definition or a proof is above 160 characters.
 - Every op of the cases is answered by the replay program (cases/ops.txt) or still to come
   (cases/to-come.txt), and replay's lines are as many as the cases of its ops.
 - The files of cases that were handed to the project are those of cases/sums.txt.
@@ -24,6 +25,7 @@ from sources import Sources
 FACADE = 'morelquilt'
 COLUMNS = ['Call', 'Proved as', 'Contract', 'Definition', 'Decided by', 'Must-fail edits']
 EXPORTER = 'board'
+LINE = 160
 EXPORT_COLUMNS = ['Export', 'Proved as', 'Contract', 'Definition', 'Must-fail edits']
 # What the short words of an export's contract stand for.
 SHORT = {'W of': ['wrote', 'fitted', 'roomAfter'], 'R of': ['place', 'after']}
@@ -242,6 +244,14 @@ def edit_faults(root):
                 yield '%s: its old line stands %d times in %s' % (path.relative_to(root), times, file.relative_to(root))
 
 
+def width_faults(root):
+    """Lines of definitions and proofs that are too long to be read."""
+    for path in sorted((root / 'crates').glob('*/*/**/*.antt')):
+        for number, line in enumerate(path.read_text().splitlines(), 1):
+            if len(line) > LINE:
+                yield '%s:%d: %d characters, above %d' % (path.relative_to(root), number, len(line), LINE)
+
+
 def case_faults(root):
     cases = root / 'cases'
     counts = collections.Counter()
@@ -271,4 +281,5 @@ def faults(root):
         yield 'docs/PUBLIC.md: ' + fault
     yield from inner_faults(root)
     yield from edit_faults(root)
+    yield from width_faults(root)
     yield from case_faults(root)

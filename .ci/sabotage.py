@@ -50,6 +50,7 @@ NAMES_AND_LISTS = [
     Sabotage('crates/text_char/src/lib.rt', 'pub fn within(low: u32, high: u32, n: u32) -> bool\n',
              'pub fn within(low: u32, high: u32, n: u32) -> bool\n    requires { ⌜ low ≤ high ⌝ }\n', 'text_char::within has a `requires`'),
     Sabotage('crates/text/src/lib.rt', '    ensures { λ r. ⌜ wroteTold r ≡ wrote (textIn (now (s .entry))) ⌝ }\n{', '{', 'morelquilt::utf16_size has no contract'),
+    Sabotage('crates/format/specs/Guid.antt', '-- ', '-- %s ' % ('long ' * 40), 'crates/format/specs/Guid.antt:1: '),
     # docs/PUBLIC.md
     Sabotage('docs/PUBLIC.md', ', `morelquilt::Span`', '', 'the type morelquilt::Span is not listed'),
     Sabotage('docs/PUBLIC.md', 'the modules `bits::signed` (two\'s complement) and', 'the modules', 'bits::signed::of_i16 is a `pub fn` on neither list'),

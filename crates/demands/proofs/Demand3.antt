@@ -2,8 +2,8 @@
 --
 -- A call is known here by what was passed, what it answered and what its room held afterwards; that these keep the call's contract, whatever the call did, is
 -- `ReadsRow` and `NormalisesRow`. For every list of columns, every input of bytes and every place in it where a row was accepted:
---   Holds cols s at vs next       `read_row` answered with a row that ends at next; the values that `value` then takes, column by column, are never refused, and
---                                 are of the kinds of vs, their contents, in the input or in the room, those of vs
+--   Holds cols s at vs next       `read_row` answered with a row that ends at next; the values that `value` then takes, column by column, are never refused,
+--                                 and are of the kinds of vs, their contents, in the input or in the room, those of vs
 --   Form cols s at form next      `normal_row` answered with a row that ends at next and a count; the room's first so many bytes are form
 -- the theorems say:
 --   same    two forms are the same bytes exactly when both rows hold the same kind and content in every column

@@ -94,8 +94,8 @@ abbrev pub typedAs : Answer TypeId → List ℕ → Schema → Column
 typedAs (gives t) r names = fieldsOf t r names
 typedAs (refuses e) r names = brokenColumn
 
--- The column that packs to the record that the bytes begin with; its names stand beside the table. "A record that no list packs to is 6": it stands for a column that is 6 wherever it
--- is used.
+-- The column that packs to the record that the bytes begin with; its names stand beside the table. "A record that no list packs to is 6": it stands for a
+-- column that is 6 wherever it is used.
 unfoldable pub columnOf : List ℕ → Schema → Column
 columnOf r names = pick (keepsPlaces r) (typedAs (typeOf (getD r 0 0)) r names) brokenColumn
 

@@ -1,5 +1,5 @@
--- A value that was found as three numbers, for callers in other languages: its kind's, and two more. packed_value/specs/Numbers.antt has the same of a value to be
--- written.
+-- A value that was found as three numbers, for callers in other languages: its kind's, and two more. packed_value/specs/Numbers.antt has the same of a value
+-- to be written.
 use Prim.Native.Nat.{ℕ}
 use mathlib.Core.List.{List, [], _∷_, _++_}
 use lib.ListN.{take, drop}

@@ -1,7 +1,7 @@
 -- The values of a row, turn by turn: the list holds the first values' numbers and the room the first bytes of what the row copies out, and what is left of the
 -- columns gives the others.
--- Why it holds: the row was judged, so that each value stands at its place; each turn puts three numbers behind those that stand, and those are the next three, and
--- so with the bytes of the room.
+-- Why it holds: the row was judged, so that each value stands at its place; each turn puts three numbers behind those that stand, and those are the next
+-- three, and so with the bytes of the room.
 -- Assumes nothing.
 use mathlib.Core.Path.{_≡_, refl, sym, ap, _∙_}
 use mathlib.Core.List.{List, [], _∷_, _++_}

@@ -51,7 +51,8 @@ unfolding putAt
 put-none out o = sym (rw (add-zero o) (take-append-drop o out))
 
 -- of a width that the record tells
-module _ (d : D.Column) (s : List ℕ) (p : Place) (told : Plain) (n : ℕ) (h : p .at ≤ length s) (w : Stands d (drop (p .at) s) (valueIn told (drop (p .at) s)) n) where
+module _ (d : D.Column) (s : List ℕ) (p : Place) (told : Plain) (n : ℕ) (h : p .at ≤ length s)
+    (w : Stands d (drop (p .at) s) (valueIn told (drop (p .at) s)) n) where
   pub taken-width : (at : ℕ) (values out values′ : List ℕ) → values′ ≡ putAt values at (valueSlot (valueIn told (drop (p .at) s)))
       → Taken d (readAt (readValue d) s (p .at)) p at values out values′ out (record { at = p .at + n; copied = p .copied })
   taken-width at values out values′ e =

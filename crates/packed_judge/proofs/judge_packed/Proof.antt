@@ -102,11 +102,12 @@ loop-again c =
     let x = rowJudgedTold (first .start .result) in
     let i = turn .loop .i in
     let l = less taken in
+    let c′ = columnMade (drop (16 * i) table) noName noName noName in
     let made = column-made table i (inside (columns first) s (start .args .cursor .at) x i l) in (
       omega (arith, taken .loop-test .taken),
       λ at e.
-          judging-next (columns first) s at x i (rowJudgedTold (turn .loop .state)) (rowJudgedTold (c .judge-at .result)) (columnMade (drop (16 * i) table) noName noName noName)
-          l (turn .loop .inv .1 at e) made (c .judge-at .ensures),
+          judging-next (columns first) s at x i (rowJudgedTold (turn .loop .state)) (rowJudgedTold (c .judge-at .result)) c′ l
+          (turn .loop .inv .1 at e) made (c .judge-at .ensures),
     )
 
 returns : tie.Need-returns Inv-loop μ-loop

@@ -37,8 +37,8 @@ judged c =
     let needed : List D.Column → Read Needs = λ ds. mapRead (needsOf ds) (readAt (readRow ds) (a .s .now) (a .cursor .at)) in
     let fit = c .before .before in
     let fitted =
-    joining-fits (tableMade t) (a .s .now) (a .cursor .at) (a .out .now) [] (rowJudgedTold (fit .before .judge-packed .result)) (rowJudgedTold (fit .fit-in .result))
-    (fit .before .judge-packed .ensures ∙ ap needed (sym (table-told [] t))) (fit .fit-in .ensures)
+    joining-fits (tableMade t) (a .s .now) (a .cursor .at) (a .out .now) [] (rowJudgedTold (fit .before .judge-packed .result))
+    (rowJudgedTold (fit .fit-in .result)) (fit .before .judge-packed .ensures ∙ ap needed (sym (table-told [] t))) (fit .fit-in .ensures)
     ∙ ap (λ (ds : List D.Column). mapRead (needsOf ds) (read ds (a .s .now) (a .cursor .at) (length (a .out .now)) numbers)) (table-told [] t) in
     let counted =
     c .before .records .ensures ∙ (sym (columns-counted t) ∙ (sym (length-map (tableMade t) (columnTold [])) ∙ ap length (table-told [] t))) in

@@ -65,7 +65,8 @@ add-t15 c =
     let a = z .args in
     let rest = drop (a .place .cursor .at) (a .s .now) in
     let v = valueIn (asked .before .plain-at .result) rest in
-    record { fits = omega (arith, ends-inside (column asked) (a .s .now) (a .place .cursor .at) v (asked .width-in .result) (z .pre .2) (there taken .0), z .good) }
+    let inside = ends-inside (column asked) (a .s .now) (a .place .cursor .at) v (asked .width-in .result) (z .pre .2) (there taken .0) in
+    record { fits = omega (arith, inside, z .good) }
 
 same-length : tie.Need-same-length
 same-length c = search needs

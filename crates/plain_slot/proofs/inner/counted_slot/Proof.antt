@@ -49,7 +49,8 @@ returns-2 c =
     let some = c .before in
     let a = some .before .before .before .args in
     let t = ne-eqb (getD (drop (a .at) (a .s .now)) 0 0) 0 (λ e. some .if1 .left (sym (first-byte (a .s .now) (a .at)) ∙ e)) in
-    rw t (c .slot-at .ensures ∙ ap (λ (l : List ℕ). scalarSlot (scalarOf (kindTold (a .k)) (take (width (kindTold (a .k))) l))) (sym (drop-drop 1 (a .at) (a .s .now))))
+    let k = kindTold (a .k) in
+    rw t (c .slot-at .ensures ∙ ap (λ (l : List ℕ). scalarSlot (scalarOf k (take (width k) l))) (sym (drop-drop 1 (a .at) (a .s .now))))
 
 pub counted-slot-spec : {M : Type 1} → statement M
 counted-slot-spec =

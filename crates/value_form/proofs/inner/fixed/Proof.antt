@@ -48,7 +48,8 @@ returns-2 c d =
     let k = kindTold (began .args .k) in
     let s = began .args .rest .now in
     let bytes : Bytes s = λ i. omega (arith, other .before .before .shared-slice-known .given i) in
-    let not-bit : k ≡ S.Kind.bit → ⊥ = λ e. no-truth (sym (other .if1 .left) ∙ (other .before .same-kind .ensures ∙ ap (λ (j : S.Kind). sameKind j S.Kind.bit) e)) in
+    let asked = sym (other .if1 .left) ∙ other .before .same-kind .ensures in
+    let not-bit : k ≡ S.Kind.bit → ⊥ = λ e. no-truth (asked ∙ ap (λ (j : S.Kind). sameKind j S.Kind.bit) e) in
     rw (c .bytes-of .ensures) (fixed-same k s d (inside began) not-bit bytes)
 
 pub fixed-spec : {M : Type 1} → statement M

@@ -24,7 +24,8 @@ returns c =
     let low = c .before in
     let start = low .before .before in
     let a = start .args in
-    short-null (contentKindTold (a .k)) (a .declared) (a .rest .now) (start .pre .0) (there start) (bytes (low .before)) _ (low .low-at .ensures .0) (c .if1 .taken)
+    short-null (contentKindTold (a .k)) (a .declared) (a .rest .now) (start .pre .0) (there start) (bytes (low .before)) _
+    (low .low-at .ensures .0) (c .if1 .taken)
 
 add-t6 : tie.Need-add-t6
 add-t6 c = search needs
