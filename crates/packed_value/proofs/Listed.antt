@@ -54,7 +54,9 @@ module _ (vs : List ℕ) where
 
   module _ (i : ℕ) (l : i < partsOf 3 (length vs)) where
     here : drop i judged ≡ noValue (drop (3 * i) vs) ∷ drop (i + 1) judged
-    here = left-at none i judged (subst (λ (n : ℕ). i < n) (sym counted) l) ∙ ap (λ (o : Option Refusal). o ∷ drop (i + 1) judged) (sym (each-at 3 noValue none i vs l))
+    here =
+        left-at none i judged (subst (λ (n : ℕ). i < n) (sym counted) l)
+        ∙ ap (λ (o : Option Refusal). o ∷ drop (i + 1) judged) (sym (each-at 3 noValue none i vs l))
 
     pub starts-inside : 3 * i < length vs
     starts-inside = part-inside 3 i (length vs) (omega arith) l

@@ -58,5 +58,6 @@ module _ (buffer : List ℕ) where
       map-each 3 givenMade (valueTold buffer) (given buffer) (λ (v : List ℕ). value-told (getD v 0 0) (getD v 1 0) (getD v 2 0)) vs
 
   -- a row of them, under a table's columns
-  pub row-told : (t vs : List ℕ) → writeRow (columnsTold buffer (tableMade t)) (valuesTold buffer (givensMade vs)) ≡ writeRow (tableColumns t) (givens buffer vs)
+  pub row-told : (t vs : List ℕ)
+      → writeRow (columnsTold buffer (tableMade t)) (valuesTold buffer (givensMade vs)) ≡ writeRow (tableColumns t) (givens buffer vs)
   row-told t vs = rw (table-told buffer t, givens-told vs)

@@ -7,8 +7,6 @@ ghost use Rattle.format.specs.Row.{writeRow};
 ghost use Rattle.wire.specs.Told.{wroteTold};
 ghost use Rattle.packed.specs.Packed.{tableColumns};
 ghost use Rattle.packed_value.specs.Numbers.{givens, noValues, unless};
-use packed::inner;
-use packed_value::inner as value;
 use row_step::inner as turn;
 use wire::Wrote;
 
@@ -22,9 +20,7 @@ fn fill(out: &mut [u8], table: &[u8], values: &[u64], buffer: &[u8], fits: Wrote
     let mut at: usize = 0;
     let mut i: usize = 0;
     while i < n {
-        let c = inner::column_at(table, i);
-        let v = value::value_at(values, i);
-        at = turn::fill_on(out, c, v, buffer, at);
+        at = packed_fill::inner::fill_at(out, table, values, buffer, i, at);
         i += 1;
     }
 }

@@ -1,11 +1,11 @@
--- `packed_size::size_judged` meets its contract: at each turn the sizes so far, with what is left, are the row's size (`Sized` of row_step, over the columns and
--- the values that the numbers stand for). Assumes nothing.
+-- `packed_size::size_judged` meets its contract: at each turn the sizes so far, with what is left, are the row's size (`Sized` of row_step, over the columns
+-- and the values that the numbers stand for). Assumes nothing.
 use mathlib.Core.Path.{_≡_, sym, ap, subst, _∙_}
 use mathlib.Core.List.{List}
-use Prim.Native.Nat.{ℕ, _≤_, _<_, _-_, zero-le}
+use Prim.Native.Nat.{ℕ, _*_, _≤_, _<_, _-_, zero-le}
 use native.Mathlib.Nat.{le-antisymm}
 use native.Mathlib.Omega.{arith}
-use lib.ListN.{length}
+use lib.ListN.{length, drop}
 use borrow.Author.Needs.{needs}
 use Rattle.format.specs.Answer.{wrote}
 use Rattle.wire.specs.Told.{wroteTold}
@@ -13,9 +13,9 @@ use Rattle.column_type.specs.declared.Column.{Column}
 use Rattle.value_kind.specs.declared.Value.{Value}
 use Rattle.row_step.specs.Steps.{startOf, turnsOf}
 use Rattle.row_step.proofs.Sizing.{Sized, sizing-begins, inside, sizing-asks, sizing-next, sizing-ends}
-use Rattle.packed.specs.Made.{tableMade}
+use Rattle.packed.specs.Made.{columnMade, noName, tableMade}
 use Rattle.packed.proofs.Table.{columns-counted, column-there, column-made}
-use Rattle.packed_value.specs.Made.{givensMade}
+use Rattle.packed_value.specs.Made.{givenMade, givensMade}
 use Rattle.packed_value.proofs.Listed.{whole, given-made, givens-counted}
 use Rattle.packed_value.proofs.Told.{row-told}
 use Rattle.packed_size.proofs.size_judged.Statement.{statement}
@@ -91,23 +91,18 @@ loop-holds c =
     let f = c .before in
     (zero-le, sizing-begins (startAt f .args .buffer .now) (columns f) (values f) (wroteTold (f .start .result)))
 
-column-at-requires : tie.Need-column-at-requires Inv-loop μ-loop
-column-at-requires c κs = column-there (startAt (first (c .before)) .args .table .now) (c .before .loop .i) (has-column c)
-
-value-at-requires : tie.Need-value-at-requires Inv-loop μ-loop
-value-at-requires c κs =
-    let within = c .before in
-    let start = startAt (first (within .before)) in
-    let vs = start .args .values .now in
-    whole vs (within .before .loop .i) (subst (λ (n : ℕ). within .before .loop .i < n) (givens-counted vs) (has-value within)) (start .pre)
-
-size-on-requires : tie.Need-size-on-requires Inv-loop μ-loop
-size-on-requires c κs =
-    let within = c .before .before in
-    let turn = within .before in
+size-at-requires : tie.Need-size-at-requires Inv-loop μ-loop
+size-at-requires c κs =
+    let turn = c .before in
     let f = first turn in
-    sizing-asks (startAt f .args .buffer .now) (columns f) (values f) (wroteTold (f .start .result)) (turn .loop .i) (wroteTold (turn .loop .s))
-    (begun f) (less within) (turn .loop .inv .1 (begun f))
+    let start = startAt f in
+    let vs = start .args .values .now in
+    let i = turn .loop .i in (
+      column-there (start .args .table .now) i (has-column c),
+      whole vs i (subst (λ (n : ℕ). i < n) (givens-counted vs) (has-value c)) (start .pre),
+      sizing-asks (start .args .buffer .now) (columns f) (values f) (wroteTold (f .start .result)) i (wroteTold (turn .loop .s))
+          (begun f) (less c) (turn .loop .inv .1 (begun f)),
+    )
 
 add-i : tie.Need-add-i Inv-loop μ-loop
 add-i c = search needs
@@ -117,19 +112,19 @@ loop-less c = search needs
 
 loop-again : tie.Need-loop-again Inv-loop μ-loop
 loop-again c =
-    let valued = c .before in
-    let within = valued .before .before in
+    let within = c .before in
     let turn = within .before in
     let f = first turn in
     let a = startAt f .args in
     let i = turn .loop .i in
     let vs = a .values .now in
-    let e = valued .before .column-at .ensures ∙ column-made (a .table .now) i (has-column within) in
-    let g = valued .value-at .ensures ∙ given-made vs i (subst (λ (n : ℕ). i < n) (givens-counted vs) (has-value within)) in (
+    let e = column-made (a .table .now) i (has-column within) in
+    let g = given-made vs i (subst (λ (n : ℕ). i < n) (givens-counted vs) (has-value within)) in (
       omega (arith, within .loop-test .taken),
       λ h.
-          sizing-next (a .buffer .now) (columns f) (values f) (wroteTold (f .start .result)) i (wroteTold (turn .loop .s)) (wroteTold (c .size-on .result))
-          (valued .before .column-at .result) (valued .value-at .result) h (less within) (turn .loop .inv .1 h) e g (c .size-on .ensures),
+          sizing-next (a .buffer .now) (columns f) (values f) (wroteTold (f .start .result)) i (wroteTold (turn .loop .s)) (wroteTold (c .size-at .result))
+          (columnMade (drop (16 * i) (a .table .now)) noName noName noName) (givenMade (drop (3 * i) vs)) h (less within) (turn .loop .inv .1 h) e g
+          (c .size-at .ensures),
     )
 
 returns : tie.Need-returns Inv-loop μ-loop
@@ -155,9 +150,7 @@ size-judged-spec =
     start-requires
     turns-requires
     loop-holds
-    column-at-requires
-    value-at-requires
-    size-on-requires
+    size-at-requires
     add-i
     loop-less
     loop-again

@@ -38,7 +38,12 @@ returns-6 c = rw (c .match .keys6)
 returns-7 : tie.Need-returns-7
 unfolding isNumber
 returns-7 c =
-    simp (ne-eqb _ _ (c .match .rest .0 .0 .0 .0 .0 .1), ne-eqb _ _ (c .match .rest .0 .0 .0 .0 .1), ne-eqb _ _ (c .match .rest .0 .0 .0 .1), ne-eqb _ _ (c .match .rest .0 .0 .1), ne-eqb _ _ (c .match .rest .0 .1), ne-eqb _ _ (c .match .rest .1))
+    let six = c .match .rest in
+    let four = six .0 in
+    let three = four .0 in
+    let two = three .0 in
+    let one = two .0 in
+    simp (ne-eqb _ _ (one .0 .1), ne-eqb _ _ (one .1), ne-eqb _ _ (two .1), ne-eqb _ _ (three .1), ne-eqb _ _ (four .1), ne-eqb _ _ (six .1))
 
 pub is-number-spec : {M : Type 1} → statement M
 is-number-spec =

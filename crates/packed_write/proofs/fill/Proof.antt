@@ -1,11 +1,11 @@
--- `packed_write::fill` meets its contract: at each turn the room holds the first bytes of the row, and what is left writes the others (`Filled` of row_step, over
--- the columns and the values that the numbers stand for). Assumes nothing.
+-- `packed_write::fill` meets its contract: at each turn the room holds the first bytes of the row, and what is left writes the others (`Filled` of row_step,
+-- over the columns and the values that the numbers stand for). Assumes nothing.
 use mathlib.Core.Path.{_≡_, refl, sym, ap, subst, _∙_}
 use mathlib.Core.List.{List}
-use Prim.Native.Nat.{ℕ, _≤_, _<_, _-_, zero-le}
+use Prim.Native.Nat.{ℕ, _*_, _≤_, _<_, _-_, zero-le}
 use native.Mathlib.Nat.{le-antisymm}
 use native.Mathlib.Omega.{arith}
-use lib.ListN.{length, getD}
+use lib.ListN.{length, getD, drop}
 use borrow.Author.Needs.{needs}
 use Rattle.format.specs.Answer.{Answer, fitted, wrote, roomAfter}
 use Rattle.column_type.specs.declared.Column.{Column}
@@ -14,9 +14,9 @@ use Rattle.value_kind.specs.declared.Value.{Value}
 use Rattle.row_step.specs.Steps.{turnsOf}
 use Rattle.row_step.proofs.Filling.{answer, Filled, filling-begins, filling-inside, filling-asks-of, filling-next, filling-ends}
 use Rattle.packed.specs.Each.{partsOf}
-use Rattle.packed.specs.Made.{tableMade}
+use Rattle.packed.specs.Made.{columnMade, noName, tableMade}
 use Rattle.packed.proofs.Table.{columns-counted, column-there, column-made}
-use Rattle.packed_value.specs.Made.{givensMade}
+use Rattle.packed_value.specs.Made.{givenMade, givensMade}
 use Rattle.packed_value.proofs.Listed.{whole, given-made, givens-counted}
 use Rattle.packed_value.proofs.Told.{row-told}
 use Rattle.packed_write.proofs.fill.Statement.{statement}
@@ -71,16 +71,18 @@ inside c =
 value-less : (c : tie.In-loop Inv-loop μ-loop) → c .before .loop .i < partsOf 3 (length (startAt (c .before) .args .values .now))
 value-less c = subst (λ (n : ℕ). c .before .loop .i < n) (givens-counted (startAt (c .before) .args .values .now)) (inside c .1)
 
--- what a turn takes
-column-is : (c : tie.After-column-at Inv-loop μ-loop) → c .column-at .result ≡ getD (columns (c .before .before)) (c .before .before .loop .i) noColumn
-column-is c =
-    c .column-at .ensures ∙ column-made (startAt (c .before .before) .args .table .now) (c .before .before .loop .i) (inside (c .before) .0)
+-- what a turn stands at
+abbrev columnAt : tie.In-loop Inv-loop μ-loop → Column
+columnAt c = columnMade (drop (16 * c .before .loop .i) (startAt (c .before) .args .table .now)) noName noName noName
 
-value-is : (c : tie.After-value-at Inv-loop μ-loop)
-    → c .value-at .result ≡ getD (values (c .before .before .before)) (c .before .before .before .loop .i) noValue
-value-is c =
-    let within = c .before .before in
-    c .value-at .ensures ∙ given-made (startAt (within .before) .args .values .now) (within .before .loop .i) (value-less within)
+abbrev valueAt : tie.In-loop Inv-loop μ-loop → Value
+valueAt c = givenMade (drop (3 * c .before .loop .i) (startAt (c .before) .args .values .now))
+
+column-is : (c : tie.In-loop Inv-loop μ-loop) → columnAt c ≡ getD (columns (c .before)) (c .before .loop .i) noColumn
+column-is c = column-made (startAt (c .before) .args .table .now) (c .before .loop .i) (inside c .0)
+
+value-is : (c : tie.In-loop Inv-loop μ-loop) → valueAt c ≡ getD (values (c .before)) (c .before .loop .i) noValue
+value-is c = given-made (startAt (c .before) .args .values .now) (c .before .loop .i) (value-less c)
 
 records-requires : tie.Need-records-requires Inv-loop μ-loop
 records-requires c κs = search needs
@@ -95,23 +97,18 @@ loop-holds c =
     let vs = a .values .now in
     (zero-le, refl, filling-begins (a .buffer .now) (tableMade t) (givensMade vs) (a .out .now) (row (a .out .now) t vs (a .buffer .now)) refl)
 
-column-at-requires : tie.Need-column-at-requires Inv-loop μ-loop
-column-at-requires c κs = column-there (startAt (c .before) .args .table .now) (c .before .loop .i) (inside c .0)
-
-value-at-requires : tie.Need-value-at-requires Inv-loop μ-loop
-value-at-requires c κs =
+fill-at-requires : tie.Need-fill-at-requires Inv-loop μ-loop
+fill-at-requires c κs =
     let within = c .before in
-    let start = startAt (within .before) in
-    whole (start .args .values .now) (within .before .loop .i) (value-less within) (start .pre .0)
-
-fill-on-requires : tie.Need-fill-on-requires Inv-loop μ-loop
-fill-on-requires c κs =
-    let valued = c .before in
-    let within = valued .before .before in
     let turn = within .before in
-    let a = startAt turn .args in
-    filling-asks-of (a .buffer .now) (columns turn) (values turn) (a .out .now) (asked turn) (turn .loop .i) (turn .loop .at) (turn .loop .out)
-    (valued .before .column-at .result) (valued .value-at .result) refl (less within) (turn .loop .inv .2) (column-is (valued .before)) (value-is valued)
+    let start = startAt turn in
+    let a = start .args in
+    let i = turn .loop .i in (
+      column-there (a .table .now) i (inside within .0),
+      whole (a .values .now) i (value-less within) (start .pre .0),
+      filling-asks-of (a .buffer .now) (columns turn) (values turn) (a .out .now) (asked turn) i (turn .loop .at) (turn .loop .out)
+          (columnAt within) (valueAt within) refl (less within) (turn .loop .inv .2) (column-is within) (value-is within),
+    )
 
 add-i : tie.Need-add-i Inv-loop μ-loop
 add-i c = search needs
@@ -122,15 +119,14 @@ loop-less c = search needs
 loop-again : tie.Need-loop-again Inv-loop μ-loop
 loop-again c =
     let filled = c .before .before in
-    let valued = filled .before .before in
-    let within = valued .before .before in
+    let within = filled .before .before in
     let turn = within .before in
     let a = startAt turn .args in (
       omega (arith, within .loop-test .taken),
-      filled .fill-on .kept .0 ∙ turn .loop .inv .1,
-      filling-next (a .buffer .now) (columns turn) (values turn) (a .out .now) (asked turn) (turn .loop .i) (turn .loop .at) (filled .fill-on .result)
-          (turn .loop .out) (filled .fill-on .last .0) (valued .before .column-at .result) (valued .value-at .result) refl (less within) (turn .loop .inv .2)
-          (column-is (valued .before)) (value-is valued) (filled .fill-on .ensures .0) (filled .fill-on .ensures .1),
+      filled .fill-at .kept .0 ∙ turn .loop .inv .1,
+      filling-next (a .buffer .now) (columns turn) (values turn) (a .out .now) (asked turn) (turn .loop .i) (turn .loop .at) (filled .fill-at .result)
+          (turn .loop .out) (filled .fill-at .last .0) (columnAt within) (valueAt within) refl (less within) (turn .loop .inv .2)
+          (column-is within) (value-is within) (filled .fill-at .ensures .0) (filled .fill-at .ensures .1),
     )
 
 same-length : tie.Need-same-length Inv-loop μ-loop
@@ -141,7 +137,8 @@ returns c =
     let turn = c .before in
     let a = startAt turn .args in
     let last = le-antisymm (turn .loop .inv .0) (c .loop-test .left) ∙ turned turn in
-    let told = ap (λ (r : Answer (List ℕ)). roomAfter (fitted r (length (a .out .now))) (a .out .now)) (row-told (a .buffer .now) (a .table .now) (a .values .now)) in
+    let out = a .out .now in
+    let told = ap (λ (r : Answer (List ℕ)). roomAfter (fitted r (length out)) out) (row-told (a .buffer .now) (a .table .now) (a .values .now)) in
     filling-ends (a .buffer .now) (columns turn) (values turn) (a .out .now) (asked turn) (turn .loop .at) (turn .loop .out) refl
     (subst (λ (i : ℕ). Filled (a .buffer .now) (columns turn) (values turn) (a .out .now) (asked turn) i (turn .loop .at) (turn .loop .out)) last
     (turn .loop .inv .2)) ∙ told
@@ -155,9 +152,7 @@ fill-spec =
     records-requires
     turns-requires
     loop-holds
-    column-at-requires
-    value-at-requires
-    fill-on-requires
+    fill-at-requires
     add-i
     loop-less
     loop-again

@@ -24,15 +24,18 @@ fit-in-requires c κs = search needs
 enum-known-fits : tie.Need-enum-known-fits
 enum-known-fits c = search needs
 
+abbrev startAt : tie.After-fit-in → tie.Start
+startAt c = c .before .before .before .before .before .before
+
 -- the row, where its values are fine
 abbrev row : tie.After-fit-in → Answer (List ℕ)
 row c =
-    let a = c .before .before .before .before .before .before .args in
+    let a = startAt c .args in
     unless (noValues (a .values .now)) (writeRow (tableColumns (a .table .now)) (givens (a .buffer .now) (a .values .now)))
 
-answered : (c : tie.After-fit-in) → wroteTold (c .fit-in .result) ≡ wrote (fitted (row c) (length (c .before .before .before .before .before .before .args .out .now)))
+answered : (c : tie.After-fit-in) → wroteTold (c .fit-in .result) ≡ wrote (fitted (row c) (length (startAt c .args .out .now)))
 answered c =
-    let a = c .before .before .before .before .before .before .args in
+    let a = startAt c .args in
     c .fit-in .ensures
     ∙ (ap (λ (w : Answer ℕ). fitIn w (length (a .out .now))) (c .before .size-packed .ensures) ∙ fit-wrote (row c) (length (a .out .now)))
 
@@ -40,7 +43,7 @@ fill-requires : tie.Need-fill-requires
 fill-requires c κs =
     let known = c .before .before in
     let fit = known .before .before in
-    let a = fit .before .before .before .before .before .before .args in
+    let a = startAt fit .args in
     let told = ap wroteTold (sym (known .fits2 .given .1)) ∙ answered fit in
     let fine = judged-fine (noValues (a .values .now)) _ _ (length (a .out .now)) told in
     (fine, rw fine at told)
@@ -56,7 +59,7 @@ returns c =
     let filled = c .before .before in
     let known = filled .before .before .before in
     let fit = known .before .before in
-    let a = fit .before .before .before .before .before .before .args in
+    let a = startAt fit .args in
     let told = ap wroteTold (sym (known .fits2 .given .1)) ∙ answered fit in
     let fine = judged-fine (noValues (a .values .now)) _ _ (length (a .out .now)) told in
     (told, rw fine (filled .fill .ensures))
@@ -65,7 +68,7 @@ returns-2 : tie.Need-returns-2
 returns-2 c =
     let known = c .before in
     let fit = known .before .before in
-    let a = fit .before .before .before .before .before .before .args in
+    let a = startAt fit .args in
     let told = ap wroteTold (sym (known .fits3 .given .1)) ∙ answered fit in
     (told, room-kept _ _ (a .out .now) told)
 

@@ -83,7 +83,27 @@ returns-10 c = rw (c .match .keys10)
 returns-11 : tie.Need-returns-11
 unfolding valueMade
 returns-11 c =
-    simp (ne-eqb _ _ (c .match .rest .0 .0 .0 .0 .0 .0 .0 .0 .0 .1), ne-eqb _ _ (c .match .rest .0 .0 .0 .0 .0 .0 .0 .0 .1), ne-eqb _ _ (c .match .rest .0 .0 .0 .0 .0 .0 .0 .1), ne-eqb _ _ (c .match .rest .0 .0 .0 .0 .0 .0 .1), ne-eqb _ _ (c .match .rest .0 .0 .0 .0 .0 .1), ne-eqb _ _ (c .match .rest .0 .0 .0 .0 .1), ne-eqb _ _ (c .match .rest .0 .0 .0 .1), ne-eqb _ _ (c .match .rest .0 .0 .1), ne-eqb _ _ (c .match .rest .0 .1), ne-eqb _ _ (c .match .rest .1))
+    let ten = c .match .rest in
+    let nine = ten .0 in
+    let eight = nine .0 in
+    let seven = eight .0 in
+    let six = seven .0 in
+    let five = six .0 in
+    let four = five .0 in
+    let three = four .0 in
+    let two = three .0 in
+    simp (
+      ne-eqb _ _ (two .0 .1),
+      ne-eqb _ _ (two .1),
+      ne-eqb _ _ (three .1),
+      ne-eqb _ _ (four .1),
+      ne-eqb _ _ (five .1),
+      ne-eqb _ _ (six .1),
+      ne-eqb _ _ (seven .1),
+      ne-eqb _ _ (eight .1),
+      ne-eqb _ _ (nine .1),
+      ne-eqb _ _ (ten .1),
+    )
 
 pub value-of-spec : {M : Type 1} → statement M
 value-of-spec =

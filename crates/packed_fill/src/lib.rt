@@ -1,0 +1,2 @@
+// One column's turn in writing a row under a packed table, where the row fits.
+pub mod inner;
