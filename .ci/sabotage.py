@@ -47,8 +47,8 @@ NAMES_AND_LISTS = [
     Sabotage('crates/morelquilt/src/lib.rt', 'pub use wire::Guid;\n', '', 'the type morelquilt::Guid is listed, and not handed on'),
     Sabotage('crates/prelogin/src/lib.rt', 'pub fn write_prelogin(', 'pub(crate) fn write_prelogin(', 'morelquilt hands on morelquilt::write_prelogin, which is not public'),
     Sabotage('crates/column_rule/src/lib.rt', 'pub fn names_fit(', 'fn names_fit(', 'there is no public call, type or module column_rule::names_fit'),
-    Sabotage('crates/text_char/src/lib.rt', 'pub fn within(low: u32, high: u32, n: u32) -> bool\n',
-             'pub fn within(low: u32, high: u32, n: u32) -> bool\n    requires { ⌜ low ≤ high ⌝ }\n', 'text_char::within has a `requires`'),
+    Sabotage('crates/text_lead/src/lib.rt', 'pub fn within(low: u32, high: u32, n: u32) -> bool\n',
+             'pub fn within(low: u32, high: u32, n: u32) -> bool\n    requires { ⌜ low ≤ high ⌝ }\n', 'text_lead::within has a `requires`'),
     Sabotage('crates/text/src/lib.rt', '    ensures { λ r. ⌜ wroteTold r ≡ wrote (textIn (now (s .entry))) ⌝ }\n{', '{', 'morelquilt::utf16_size has no contract'),
     # docs/PUBLIC.md
     Sabotage('docs/PUBLIC.md', ', `morelquilt::Span`', '', 'the type morelquilt::Span is not listed'),

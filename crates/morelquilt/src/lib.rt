@@ -15,11 +15,11 @@ pub use cursor::ValueRead;
 pub use cursor::WalkOpened;
 
 // What every call answers with.
+pub use guid::write_guid;
 pub use wire::Guid;
 pub use wire::Refusal;
 pub use wire::Width;
 pub use wire::Wrote;
-pub use wire::write_guid;
 
 // The packet header.
 pub use header::Header;

@@ -26,7 +26,7 @@ pub fn put_scalar(out: &mut [u8], at: usize, s: Scalar)
     ensures { λ _. ⌜ now (out .exit) ≡ sets (now (out .entry)) at (scalarBytes (scalarTold s)) ⌝ }
 {
     if let Scalar::Guid(g) = s {
-        wire::inner::put_guid(out, at, g);
+        guid::inner::put_guid(out, at, g);
         return;
     }
     wire::inner::put_low(

@@ -7,7 +7,8 @@ use lib.ListN.{drop}
 use denote.Ref.{now}
 use borrow.Author.Needs.{needs}
 use borrow.Author.Tests.{not-true, not-false}
-use Rattle.text_char.specs.Told.{rowTold, standsIn}
+use Rattle.text_char.specs.Told.{standsIn}
+use Rattle.text_lead.specs.Told.{rowTold}
 use Rattle.text_char.proofs.Places.{stands-true, second-not, rest-two, third-not, rest-three, fourth-not, rest-four}
 use Rattle.text_char.proofs.inner.rest8_at.Statement.{statement}
 use Rattle.text_char.proofs.inner.rest8_at.Tie as tie
