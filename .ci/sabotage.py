@@ -53,7 +53,7 @@ NAMES_AND_LISTS = [
     # docs/PUBLIC.md
     Sabotage('docs/PUBLIC.md', ', `morelquilt::Span`', '', 'the type morelquilt::Span is not listed'),
     Sabotage('docs/PUBLIC.md', 'the modules `bits::signed` (two\'s complement) and', 'the modules', 'bits::signed::of_i16 is a `pub fn` on neither list'),
-    Sabotage('docs/PUBLIC.md', '`value_read!short_at_length`, ', '', 'morelquilt::Cursor::short_content has 1 must-fail edits'),
+    Sabotage('docs/PUBLIC.md', '`value_part!short_at_length`, ', '', 'morelquilt::Cursor::short_content has 1 must-fail edits'),
     Sabotage('docs/PUBLIC.md', '`untyped_size!string_by_units`', '`format!untyped_bound_moved`', 'morelquilt::untyped_size has 1 wrong programs among its edits'),
     Sabotage('.ci/complete.py', 'PROMISE_ONLY = [', "PROMISE_ONLY = ['morelquilt::Cursor::low', ", 'morelquilt::Cursor::low has 2 wrong programs among its edits, and is listed as having none'),
     Sabotage('docs/PUBLIC.md', 'are wrong programs; the others', 'were wrong programs; the others', 'are wrong programs, and the page does not say so'),

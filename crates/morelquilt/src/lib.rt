@@ -64,7 +64,7 @@ pub use value_write::write_value;
 // A value that was read, and where its content stands.
 pub use value_found::Found;
 pub use value_found::Stand;
-pub use value_read::handed_back;
+pub use value_part::handed_back;
 
 // PLP values: the chunk walk, and the walk object that keeps the lent input.
 pub use plp::Total;
