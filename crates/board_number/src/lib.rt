@@ -97,7 +97,7 @@ fn write_text(text: &[u8], out: &mut [u8]) -> Counted
 {
     let high = wire::inner::high_at(text, 0, 8);
     let low = wire::inner::high_at(text, 8, 8);
-    board_answer::answer(wire::write_guid(Guid { high, low }, out))
+    board_answer::answer(guid::write_guid(Guid { high, low }, out))
 }
 
 // The same of a whole array.

@@ -13,7 +13,8 @@ ghost use Rattle.format.specs.Plp.{openWalk, joinPlp, roomAfterJoin};
 ghost use Rattle.plp_join.specs.Told.{counted};
 ghost use Rattle.wire.specs.Told.{widthOf, readGuid};
 ghost use Rattle.column_type.specs.Told.{columnTold};
-ghost use Rattle.value_read.specs.Told.{foundOut, roomOut, shortContent};
+ghost use Rattle.value_read.specs.Told.{foundOut, roomOut};
+ghost use Rattle.value_part.specs.Told.{shortContent};
 ghost use Rattle.cursor.specs.Told.{byteTold, numberTold, NumberBelow, guidTold, headerTold, columnReadTold, NamesFrom, valueReadTold, CanonicalRead, openedTold, joinedTold};
 use column_type::Column;
 use header::Header;
@@ -160,7 +161,7 @@ impl Cursor {
     pub fn short_content(self, c: Column, s: &[u8]) -> &[u8]
         ensures { λ r. ⌜ ((b : List ℕ) → now r ≡ shortContent (columnTold b c) (now (s .entry)) (self .at)) ⌝ }
     {
-        value_read::short_content(c, s, wire::Cursor { at: self.at })
+        value_part::short_content(c, s, wire::Cursor { at: self.at })
     }
 
     // The eight bytes of a PLP value at the cursor, and the walk behind them.

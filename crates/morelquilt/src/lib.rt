@@ -15,11 +15,11 @@ pub use cursor::ValueRead;
 pub use cursor::WalkOpened;
 
 // What every call answers with.
+pub use guid::write_guid;
 pub use wire::Guid;
 pub use wire::Refusal;
 pub use wire::Width;
 pub use wire::Wrote;
-pub use wire::write_guid;
 
 // The packet header.
 pub use header::Header;
@@ -64,7 +64,7 @@ pub use value_write::write_value;
 // A value that was read, and where its content stands.
 pub use value_found::Found;
 pub use value_found::Stand;
-pub use value_read::handed_back;
+pub use value_part::handed_back;
 
 // PLP values: the chunk walk, and the walk object that keeps the lent input.
 pub use plp::Total;

@@ -7,14 +7,15 @@ use Rattle.format.specs.Answer.{Answer, gives, refuses, Read, took, stops}
 use Rattle.format.specs.Plp as P
 use Rattle.format.proofs.Decided.{Undoes, decided}
 use Rattle.wire.proofs.Decided.{refusalBack, refusal-undoes}
-use Rattle.plp.specs.declared.Total.{Total}
-use Rattle.plp.specs.declared.Total.the-variants as T
+use Rattle.plp_rule.specs.declared.Total.{Total}
+use Rattle.plp_rule.specs.declared.Total.the-variants as T
 use Rattle.plp.specs.declared.Walk.{Walk}
 use Rattle.plp.specs.declared.WalkOpened.{WalkOpened}
 use Rattle.plp.specs.declared.WalkOpened.the-variants as O
 use Rattle.plp.specs.declared.Walked.{Walked}
 use Rattle.plp.specs.declared.Walked.the-variants as W
-use Rattle.plp.specs.Told.{totalTold, walkTold, openedTold, walkedTold}
+use Rattle.plp_rule.specs.Told.{totalTold}
+use Rattle.plp.specs.Told.{walkTold, openedTold, walkedTold}
 
 abbrev pub totalBack : Option ℕ → Total
 totalBack none = T.Unknown

@@ -4,8 +4,7 @@ use mathlib.Core.Option.{Option, none, some}
 use Rattle.format.specs.Answer.{Answer, gives, refuses, Read, took, stops}
 use Rattle.format.specs.Plp as P
 use Rattle.wire.specs.Told.{refusalTold}
-use Rattle.plp.specs.declared.Total.{Total}
-use Rattle.plp.specs.declared.Total.the-variants as T
+pub use Rattle.plp_rule.specs.Told.{totalTold}
 use Rattle.plp.specs.declared.Walk.{Walk}
 use Rattle.plp.specs.declared.WalkOpened.{WalkOpened}
 use Rattle.plp.specs.declared.WalkOpened.the-variants as O
@@ -13,17 +12,6 @@ use Rattle.plp.specs.declared.Headed.{Headed}
 use Rattle.plp.specs.declared.Headed.the-variants as H
 use Rattle.plp.specs.declared.Walked.{Walked}
 use Rattle.plp.specs.declared.Walked.the-variants as W
-use Rattle.plp.specs.declared.rules.Eight.{Eight}
-use Rattle.plp.specs.declared.rules.Eight.the-variants as E
-
-abbrev pub totalTold : Total → Option ℕ
-totalTold T.Unknown = none
-totalTold (T.Known n) = some n
-
-abbrev pub eightTold : Eight → Read P.PlpHead
-eightTold E.Null = took P.isNull 0
-eightTold (E.Chunked t) = took (P.chunked (totalTold t)) 0
-eightTold (E.Refused e) = stops (refusalTold e)
 
 abbrev pub walkTold : Walk → P.Walk
 walkTold w = record { at = w .at; sum = w .sum; total = totalTold (w .total); text = w .text; ended = w .ended }

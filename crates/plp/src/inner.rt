@@ -7,7 +7,6 @@ ghost use Rattle.format.specs.Plp.{endOf, chunkOf};
 ghost use Rattle.plp.specs.Told.{walkTold, headedTold};
 use crate::Headed;
 use crate::Walk;
-use crate::rules;
 use wire::Refusal;
 
 // A zero head.
@@ -16,10 +15,10 @@ pub fn end_of(w: Walk) -> Headed
     ensures { λ r. ⌜ headedTold r ≡ endOf (walkTold w) ⌝ }
 {
     let total = w.total;
-    if rules::unlike_total(total, w.sum) {
+    if plp_rule::unlike_total(total, w.sum) {
         return Headed::Refused(Refusal::Sequence);
     }
-    if rules::is_odd(w.text, w.sum) {
+    if plp_rule::is_odd(w.text, w.sum) {
         return Headed::Refused(Refusal::Sequence);
     }
     Headed::Walk(Walk {
@@ -37,10 +36,10 @@ pub fn chunk_of(s: &[u8], w: Walk, n: u64) -> Headed
     ensures { λ r. ⌜ headedTold r ≡ chunkOf (now (s .entry)) (walkTold w) n ⌝ }
 {
     let total = w.total;
-    if rules::above(rules::bound(), w.sum, n) {
+    if plp_rule::above(plp_rule::bound(), w.sum, n) {
         return Headed::Refused(Refusal::Long);
     }
-    if rules::above_total(total, w.sum, n) {
+    if plp_rule::above_total(total, w.sum, n) {
         return Headed::Refused(Refusal::Sequence);
     }
     let count = n as usize;

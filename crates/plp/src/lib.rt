@@ -1,21 +1,15 @@
 // PLP values: the eight bytes and the chunk walk with its allowance.
 mod inner;
-mod rules;
 
 ghost use mathlib.Core.Path.{_≡_};
 ghost use Rattle.format.specs.Plp.{openWalk, takeHead, walkChunks};
 ghost use Rattle.plp.specs.Told.{walkTold, openedTold, headedTold, walkedTold};
-use rules::Eight;
+use plp_rule::Eight;
+pub use plp_rule::Total;
 use wire::Cursor;
 use wire::NumberRead;
 use wire::Refusal;
 use wire::Width;
-
-// The total that the eight bytes say, or that they do not.
-pub enum Total {
-    Unknown,
-    Known(u64),
-}
 
 // Where a walk over chunks stands: its place, the content bytes passed, the total, whether an even
 // count is asked, and whether the last zero was taken.
@@ -53,7 +47,7 @@ pub fn open_walk(s: &[u8], from: Cursor, text: bool) -> WalkOpened
     let NumberRead::Number(n, next) = from.low(s, Width::Eight) else {
         return WalkOpened::Refused(Refusal::Missing);
     };
-    let eight = rules::eight_of(n);
+    let eight = plp_rule::eight_of(n);
     match eight {
         Eight::Null => WalkOpened::Null(next),
         Eight::Chunked(total) => {

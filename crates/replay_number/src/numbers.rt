@@ -17,7 +17,7 @@ pub fn guid(frame: &[u8]) {
         return;
     };
     let mut out = [0u8; 16];
-    wire::write_guid(Guid { high, low }, &mut out);
+    guid::write_guid(Guid { high, low }, &mut out);
     say::ok();
     say::bytes(&out);
     say::end();

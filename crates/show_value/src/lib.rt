@@ -54,10 +54,10 @@ fn say_scalar(v: Scalar) {
 fn say_binary(p: Stand, s: &[u8], joined: &[u8]) {
     match p {
         Stand::Input(span) => {
-            show_content::say_bytes(value_read::handed_back(s, span.start, span.count));
+            show_content::say_bytes(value_part::handed_back(s, span.start, span.count));
         }
         Stand::Room(span) => {
-            show_content::say_bytes(value_read::handed_back(joined, span.start, span.count));
+            show_content::say_bytes(value_part::handed_back(joined, span.start, span.count));
         }
     }
 }
@@ -66,11 +66,11 @@ fn say_binary(p: Stand, s: &[u8], joined: &[u8]) {
 fn say_string(p: Stand, s: &[u8], joined: &[u8], room: &mut [u8]) {
     match p {
         Stand::Input(span) => {
-            show_content::say_string(value_read::handed_back(s, span.start, span.count), room);
+            show_content::say_string(value_part::handed_back(s, span.start, span.count), room);
         }
         Stand::Room(span) => {
             show_content::say_string(
-                value_read::handed_back(joined, span.start, span.count),
+                value_part::handed_back(joined, span.start, span.count),
                 room,
             );
         }

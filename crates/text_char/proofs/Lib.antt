@@ -1,4 +1,3 @@
-pub mod Rows
 pub mod Places
 pub mod Units
 pub mod Stores

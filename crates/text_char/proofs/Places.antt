@@ -14,8 +14,9 @@ use Rattle.format.specs.Text as T
 use Rattle.format.proofs.Answer.{no-truth}
 use Rattle.format.proofs.Characters.{less, in-between}
 use Rattle.format.proofs.Utf8.{first-ascii}
-use Rattle.text_char.specs.Told.{standsIn, chosen, none, leadIn}
-use Rattle.text_char.proofs.Rows.{lead-row, lead-none}
+use Rattle.text_char.specs.Told.{standsIn}
+use Rattle.text_lead.specs.Told.{chosen, none, leadIn}
+use Rattle.text_lead.proofs.Rows.{lead-row, lead-none}
 
 module _ (s : List ℕ) (at : ℕ) where
   -- the byte at a place, and what stands behind it

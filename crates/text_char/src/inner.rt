@@ -3,17 +3,13 @@
 ghost use mathlib.Core.Path.{_≡_};
 ghost use Prim.Native.Nat.{_+_, _-_, _≤_, _<_};
 ghost use lib.ListN.{length, getD, drop};
-ghost use Rattle.format.specs.Answer.{roomAfter};
-ghost use Rattle.format.specs.Text.{second8, unit, pair16, utf8, utf16, textIn, textOut};
-ghost use Rattle.format.specs.Number.{lowBytes};
-ghost use Rattle.lists.specs.Put.{putAt};
-ghost use lib.Seq.{sets};
-ghost use Rattle.text_char.specs.Told.{charTold, rowTold, Led};
-ghost use Rattle.wire.specs.Told.{Fitting};
+ghost use Rattle.format.specs.Text.{second8, unit, pair16};
+ghost use Rattle.text_char.specs.Told.{charTold};
+ghost use Rattle.text_lead.specs.Told.{rowTold, Led};
 use crate::CharRead;
 use crate::utf8;
-use crate::utf8::Row;
-use crate::within;
+use text_lead::Row;
+use text_lead::within;
 use wire::Refusal;
 
 // The six low bits of a byte from 80 up to BF.

@@ -5,7 +5,7 @@ ghost use Rattle.format.specs.Text.{char16, utf16};
 ghost use Rattle.text_char.specs.Told.{charTold};
 use crate::CharRead;
 use crate::inner;
-use crate::within;
+use text_lead::within;
 use wire::Refusal;
 
 // The character at a place.

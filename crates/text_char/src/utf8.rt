@@ -1,69 +1,13 @@
 // One character of UTF-8: decoding by table 3-7 of the Unicode Standard, and the size.
 ghost use mathlib.Core.Path.{_≡_};
 ghost use lib.ListN.{length, drop};
-ghost use Rattle.format.specs.Text.{wellFormed, char8, utf8};
-ghost use Rattle.text_char.specs.Told.{charTold, standsIn, row, chosen, leadTold, leadIn};
+ghost use Rattle.format.specs.Text.{char8, utf8};
+ghost use Rattle.text_char.specs.Told.{charTold, standsIn};
 use crate::CharRead;
 use crate::inner;
-use crate::within;
+use text_lead::Lead;
+use text_lead::within;
 use wire::Refusal;
-
-// A row of the table, by its first byte: the first byte's marker bits, the second byte's range, and
-// how many bytes of 80 to BF follow the second.
-pub struct Row {
-    pub marker: u32,
-    pub low: u32,
-    pub high: u32,
-    pub more: u32,
-}
-
-pub enum Lead {
-    Row(Row),
-    None,
-}
-
-// A row with these numbers.
-fn row_with(marker: u32, low: u32, high: u32, more: u32) -> Lead
-    ensures { λ r. ⌜ leadTold r ≡ chosen (row marker low high more) ⌝ }
-{
-    Lead::Row(Row {
-        marker,
-        low,
-        high,
-        more,
-    })
-}
-
-// The row that a first byte from 80 on chooses.
-fn row_of(a: u32) -> Lead
-    ensures { λ r. ⌜ leadTold r ≡ leadIn wellFormed a ⌝ }
-{
-    if within(0xC2, 0xDF, a) {
-        return row_with(0xC0, 0x80, 0xBF, 0);
-    }
-    if within(0xE0, 0xE0, a) {
-        return row_with(0xE0, 0xA0, 0xBF, 1);
-    }
-    if within(0xE1, 0xEC, a) {
-        return row_with(0xE0, 0x80, 0xBF, 1);
-    }
-    if within(0xED, 0xED, a) {
-        return row_with(0xE0, 0x80, 0x9F, 1);
-    }
-    if within(0xEE, 0xEF, a) {
-        return row_with(0xE0, 0x80, 0xBF, 1);
-    }
-    if within(0xF0, 0xF0, a) {
-        return row_with(0xF0, 0x90, 0xBF, 2);
-    }
-    if within(0xF1, 0xF3, a) {
-        return row_with(0xF0, 0x80, 0xBF, 2);
-    }
-    if within(0xF4, 0xF4, a) {
-        return row_with(0xF0, 0x80, 0x8F, 2);
-    }
-    Lead::None
-}
 
 // Whether a byte from low up to high stands at a place.
 pub fn stands(s: &[u8], at: usize, low: u32, high: u32) -> bool
@@ -86,7 +30,7 @@ pub fn char8_at(s: &[u8], at: usize) -> CharRead
     if a < 0x80 {
         return CharRead::Char(a, 1);
     }
-    let row = row_of(a);
+    let row = text_lead::row_of(a);
     match row {
         Lead::Row(r) => inner::rest8_at(s, at + 1, a, r),
         Lead::None => CharRead::Refused(Refusal::NotText),

@@ -12,11 +12,11 @@ ghost use Rattle.format.specs.Value.{untypedLength, writeUntyped};
 ghost use Rattle.wire.specs.Told.{wroteTold};
 ghost use Rattle.value_kind.specs.Told.{contentKindTold, spanTold, valueTold};
 ghost use Rattle.value_kind.specs.Form.{givenOf, shortUpTo, untypedHead, untypedLimit};
+use content_size::content;
 use value_kind::Span;
 use value_kind::Value;
 use value_kind::family::ContentKind;
 use value_kind::kinds;
-use value_size::content;
 use wire::Wrote;
 use wire::marks;
 

@@ -11,13 +11,13 @@ ghost use Rattle.format.specs.Scalar.{width, kindOf, scalarBytes};
 ghost use Rattle.format.specs.Value.{Given, writeFamily};
 ghost use Rattle.value_kind.specs.Told.{contentKindTold, familyTold, scalarTold, spanTold, valueTold};
 ghost use Rattle.value_kind.specs.Form.{encoded, encodedPart, inForm};
+use content_size::content;
 use value_kind::Scalar;
 use value_kind::Span;
 use value_kind::Value;
 use value_kind::family::ContentKind;
 use value_kind::family::Family;
 use value_kind::kinds;
-use value_size::content;
 use wire::marks;
 
 // The value's bytes from at.
@@ -26,7 +26,7 @@ pub fn put_scalar(out: &mut [u8], at: usize, s: Scalar)
     ensures { λ _. ⌜ now (out .exit) ≡ sets (now (out .entry)) at (scalarBytes (scalarTold s)) ⌝ }
 {
     if let Scalar::Guid(g) = s {
-        wire::inner::put_guid(out, at, g);
+        guid::inner::put_guid(out, at, g);
         return;
     }
     wire::inner::put_low(

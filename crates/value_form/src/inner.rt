@@ -15,13 +15,13 @@ ghost use Rattle.format.specs.Value.{fixedWidth, lengthByte, content};
 ghost use Rattle.value_kind.specs.Told.{kindTold, listedTold, contentKindTold, familyTold};
 ghost use Rattle.value_form.specs.Told.{formTold, normalIn, IsRead};
 use crate::Form;
+use content_size::content;
 use value_kind::family;
 use value_kind::family::ContentKind;
 use value_kind::family::Family;
 use value_kind::kinds;
 use value_kind::kinds::Kind;
 use value_kind::kinds::Listed;
-use value_size::content;
 use wire::marks;
 
 // A bit whose byte stands at a place: a byte above 1 is written 1.

@@ -14,13 +14,13 @@ ghost use Rattle.format.specs.Plp.{plpMark, isOdd};
 ghost use Rattle.format.specs.Value.{Value, isText, lengthByte, content, readShort, readFamily};
 ghost use Rattle.value_kind.specs.Told.{kindTold, listedTold, contentKindTold, familyTold};
 ghost use Rattle.value_look.specs.Told.{seenTold, Lies};
+use content_size::content;
 use listed::ListedKind;
 use value_kind::family::ContentKind;
 use value_kind::family::Family;
 use value_kind::kinds;
 use value_kind::kinds::Kind;
 use value_kind::kinds::Listed;
-use value_size::content;
 use wire::Refusal;
 use wire::marks;
 

@@ -15,10 +15,10 @@ ghost use Rattle.plp_join.specs.Told.{counted};
 ghost use Rattle.value_form.specs.Told.{normalIn};
 ghost use Rattle.value_normal.specs.Runs.{held, runOn, RunFits, RunGrows};
 use crate::Run;
+use content_size::content;
 use plp_join::Judged;
 use value_form::Form;
 use value_kind::family::Family;
-use value_size::content;
 
 // The run is copied. It hands back the place behind it.
 pub fn close_run(out: &mut [u8], s: &[u8], run: Run) -> usize

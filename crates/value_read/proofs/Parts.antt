@@ -23,7 +23,8 @@ use Rattle.value_found.specs.declared.Stand.the-variants as St
 use Rattle.value_found.specs.declared.Found.the-variants as Fo
 use Rattle.value_found.specs.declared.ValueRead.the-variants as R
 use Rattle.value_found.specs.Told.{contentFound}
-use Rattle.value_read.specs.Told.{readOut, shortContent}
+use Rattle.value_part.specs.Told.{shortContent}
+use Rattle.value_read.specs.Told.{readOut}
 use Rattle.value_read.proofs.Decided.{ReadsValue}
 
 module _ (d : D.Column) (s : List ℕ) (at start count : ℕ) where

@@ -1,3 +1,2 @@
-// sizes
-pub mod content;
+// How many bytes a value takes under its column's family.
 pub mod size;

@@ -8,7 +8,7 @@ ghost use Rattle.format.specs.Scalar.{width, sameKind, isOneOf};
 ghost use Rattle.format.specs.Value.{Given, writeFamily};
 ghost use Rattle.wire.specs.Told.{wroteTold};
 ghost use Rattle.value_kind.specs.Told.{kindTold, listedTold, familyTold, scalarTold, valueTold};
-use crate::content;
+use content_size::content;
 use value_kind::Scalar;
 use value_kind::Value;
 use value_kind::family::ContentKind;

@@ -6,13 +6,13 @@ ghost use Rattle.format.specs.Plp.{readPlp};
 ghost use Rattle.format.specs.Value.{isText, readFamily};
 ghost use Rattle.value_kind.specs.Told.{contentKindTold, familyTold};
 ghost use Rattle.value_weigh.specs.Told.{weighedTold, needsIn, plpNeeds, Within};
+use content_size::content;
 use plp_join::Judged;
 use value_kind::family;
 use value_kind::family::ContentKind;
 use value_kind::family::Family;
 use value_kind::kinds;
 use value_look::Seen;
-use value_size::content;
 use wire::Refusal;
 
 // The bytes that a value takes, the content bytes that reading copies out (PLP's alone), and the

@@ -1,5 +1,5 @@
-// What every layer reads and writes with: the refusals, the cursor, numbers over the width, and the
-// GUID's two orders.
+// What every layer reads and answers with: the refusals, the cursor and what it reads: bytes, numbers
+// over the width, GUIDs.
 pub mod inner;
 pub mod marks;
 
@@ -7,9 +7,9 @@ ghost use mathlib.Core.Path.{_≡_};
 ghost use Prim.Native.Nat.{_+_, _^_};
 ghost use lib.Dec.{leb};
 ghost use lib.ListN.{length};
-ghost use Rattle.format.specs.Answer.{readAt, fitted, wrote, roomAfter};
+ghost use Rattle.format.specs.Answer.{readAt};
 ghost use Rattle.format.specs.Number.{readByte, readLow, readHigh};
-ghost use Rattle.wire.specs.Told.{widthOf, byteTold, numberTold, NumberBelow, wroteTold, guidTold, readGuid, writeGuid};
+ghost use Rattle.wire.specs.Told.{widthOf, byteTold, numberTold, NumberBelow, guidTold, readGuid};
 
 // Document 01's refusals, in the order of its table.
 pub enum Refusal {
@@ -138,16 +138,4 @@ impl Cursor {
         }
         GuidRead::Refused(Refusal::Missing)
     }
-}
-
-// The GUID's sixteen bytes in wire order, at the front of the room.
-pub fn write_guid(g: Guid, out: &mut [u8]) -> Wrote
-    ensures answer { λ r. ⌜ wroteTold r ≡ wrote (fitted (writeGuid g) (length (now (out .entry)))) ⌝ }
-    ensures room { λ _. ⌜ now (out .exit) ≡ roomAfter (fitted (writeGuid g) (length (now (out .entry)))) (now (out .entry)) ⌝ }
-{
-    if out.len() < 16 {
-        return Wrote::Refused(Refusal::Room);
-    }
-    inner::put_guid(out, 0, g);
-    Wrote::Bytes(16)
 }

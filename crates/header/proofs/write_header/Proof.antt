@@ -10,6 +10,16 @@ use borrow.Author.Needs.{needs}
 use Rattle.header.proofs.write_header.Statement.{statement}
 use Rattle.header.proofs.write_header.Tie as tie
 
+-- the places: behind the SPID, behind the length, behind the status; and the start
+abbrev length-put : tie.After-put-high2 → tie.After-put-high
+length-put c = c .before .before .before .before .before
+
+abbrev status-put : tie.After-put-high → tie.After-status-byte
+status-put c = c .before .before .before
+
+abbrev began : tie.After-status-byte → tie.Start
+began c = c .before .before .before .before
+
 returns : tie.Need-returns
 unfolding writeHeader
 returns c =
@@ -42,12 +52,10 @@ put-high-requires-2 c κs = omega (arith, simp length-set at (c .before .before 
 
 -- the callees keep the length
 kept : (c : tie.After-slice-known3) →
-    let start = c .before .before .before .before .before .before .before .before .before .before .before .before .before .before in
-    length (c .before .before .put-high2 .last .0) ≡ length (start .args .out .now)
+    length (c .before .before .put-high2 .last .0) ≡ length (began (status-put (length-put (c .before .before))) .args .out .now)
 kept c =
     let after-put-high2 = c .before .before in
-    let after-put-high = after-put-high2 .before .before .before .before .before in
-    after-put-high2 .put-high2 .kept .0 ∙ (after-put-high .put-high .kept .0 ∙ simp length-set)
+    after-put-high2 .put-high2 .kept .0 ∙ (length-put after-put-high2 .put-high .kept .0 ∙ simp length-set)
 
 slice-write-out-3 : tie.Need-slice-write-out-3
 slice-write-out-3 c = omega (arith, kept c)

@@ -5,7 +5,7 @@ use Rattle.format.specs.Answer.{took, stops, readAt}
 use Rattle.format.specs.Number.{readLow}
 use Rattle.format.proofs.Opening.{open-null, open-chunked, open-refused, open-missing}
 use Rattle.wire.specs.Told.{refusalTold, numberTold}
-use Rattle.plp.specs.Told.{totalTold, eightTold}
+use Rattle.plp_rule.specs.Told.{totalTold, eightTold}
 use Rattle.plp.proofs.Heads.{low-stops}
 use Rattle.plp.proofs.open_walk.Statement.{statement}
 use Rattle.plp.proofs.open_walk.Tie as tie

@@ -7,33 +7,47 @@ use lib.ListN.{drop}
 use denote.Ref.{now}
 use borrow.Author.Needs.{needs}
 use borrow.Author.Tests.{not-true, not-false}
-use Rattle.text_char.specs.Told.{rowTold, standsIn}
+use Rattle.text_char.specs.Told.{standsIn}
+use Rattle.text_lead.specs.Told.{rowTold}
 use Rattle.text_char.proofs.Places.{stands-true, second-not, rest-two, third-not, rest-three, fourth-not, rest-four}
 use Rattle.text_char.proofs.inner.rest8_at.Statement.{statement}
 use Rattle.text_char.proofs.inner.rest8_at.Tie as tie
 
+-- the places, each by the one before it: the second byte stands, another follows, the third stands, another follows, the fourth stands; and the start
+abbrev from2 : tie.Else2 → tie.Else1
+from2 c = c .before .before .before .before
+
+abbrev from3 : tie.Else3 → tie.Else2
+from3 c = c .before .before
+
+abbrev from4 : tie.Else4 → tie.Else3
+from4 c = c .before .before .before
+
+abbrev from5 : tie.Else5 → tie.Else4
+from5 c = c .before .before
+
+abbrev start1 : tie.Else1 → tie.Start
+start1 c = c .before .before .before
+
+abbrev start3 : tie.Else3 → tie.Start
+start3 c = start1 (from2 (from3 c))
+
+abbrev start5 : tie.Else5 → tie.Start
+start5 c = start3 (from4 (from5 c))
+
 -- the second byte stands, then the third, then the fourth
-second-stands : (c : tie.Else1) → let a = c .before .before .before .args in standsIn (a .row .low) (a .row .high) (drop (a .at) (now (a .s))) ≡ true
+second-stands : (c : tie.Else1) → let a = start1 c .args in standsIn (a .row .low) (a .row .high) (drop (a .at) (now (a .s))) ≡ true
 second-stands c = sym (c .before .stands .ensures) ∙ not-false _ (c .if1 .left)
 
-third-stands : (c : tie.Else3) →
-    let start = c .before .before .before .before .before .before .before .before .before in
-    standsIn 0x80 0xBF (drop (start .args .at + 1) (now (start .args .s))) ≡ true
+third-stands : (c : tie.Else3) → let a = start3 c .args in standsIn 0x80 0xBF (drop (a .at + 1) (now (a .s))) ≡ true
 third-stands c = sym (c .before .stands2 .ensures) ∙ not-false _ (c .if3 .left)
 
-fourth-stands : (c : tie.Else5) →
-    let start = c .before .before .before .before .before .before .before .before .before .before .before .before .before .before in
-    standsIn 0x80 0xBF (drop (start .args .at + 2) (now (start .args .s))) ≡ true
+fourth-stands : (c : tie.Else5) → let a = start5 c .args in standsIn 0x80 0xBF (drop (a .at + 2) (now (a .s))) ≡ true
 fourth-stands c = sym (c .before .stands3 .ensures) ∙ not-false _ (c .if5 .left)
 
 -- neither none nor one: two follow the second
-last-two : (c : tie.Else4) →
-    let start = c .before .before .before .before .before .before .before .before .before .before .before .before in
-    start .args .row .more ≡ 2
-last-two c =
-    let in-if2 = c .before .before .before .before .before in
-    let start = in-if2 .before .before .before .before .before .before .before in
-    omega (arith, c .if4 .left, in-if2 .if2 .left, start .pre)
+last-two : (c : tie.Else4) → start3 (from4 c) .args .row .more ≡ 2
+last-two c = omega (arith, c .if4 .left, from3 (from4 c) .if2 .left, start3 (from4 c) .pre)
 
 stands-requires : tie.Need-stands-requires
 stands-requires c κs = search needs
@@ -91,14 +105,12 @@ mul-three c = search needs
 
 add-six-at : tie.Need-add-six-at
 add-six-at c =
-    let start = c .before .before .before .before .before .before .before .before .before in
-    let a = start .args in
-    omega (arith, stands-true (now (a .s)) (a .at + 1) 0x80 0xBF (third-stands c), start .good)
+    let a = start3 c .args in
+    omega (arith, stands-true (now (a .s)) (a .at + 1) 0x80 0xBF (third-stands c), start3 c .good)
 
 six-at-requires-2 : tie.Need-six-at-requires-2
 six-at-requires-2 c κs =
-    let start = c .before .before .before .before .before .before .before .before .before in
-    let a = start .args in
+    let a = start3 c .args in
     stands-true (now (a .s)) (a .at + 1) 0x80 0xBF (third-stands c)
 
 add-three : tie.Need-add-three
@@ -118,10 +130,9 @@ returns-4 c =
 
 add-stands-2 : tie.Need-add-stands-2
 add-stands-2 c =
-    let place-3 = c .before .before .before in
-    let start = place-3 .before .before .before .before .before .before .before .before .before in
-    let a = start .args in
-    omega (arith, stands-true (now (a .s)) (a .at + 1) 0x80 0xBF (third-stands place-3), start .good)
+    let place-3 = from4 c in
+    let a = start3 place-3 .args in
+    omega (arith, stands-true (now (a .s)) (a .at + 1) 0x80 0xBF (third-stands place-3), start3 place-3 .good)
 
 stands-requires-3 : tie.Need-stands-requires-3
 stands-requires-3 c κs = search needs
@@ -146,13 +157,12 @@ mul-t11 c = search needs
 
 add-six-at-2 : tie.Need-add-six-at-2
 add-six-at-2 c =
-    let start = c .before .before .before .before .before .before .before .before .before .before .before .before .before .before in
-    omega (arith, stands-true (now (start .args .s)) (start .args .at + 2) 0x80 0xBF (fourth-stands c), start .good)
+    let a = start5 c .args in
+    omega (arith, stands-true (now (a .s)) (a .at + 2) 0x80 0xBF (fourth-stands c), start5 c .good)
 
 six-at-requires-3 : tie.Need-six-at-requires-3
 six-at-requires-3 c κs =
-    let start = c .before .before .before .before .before .before .before .before .before .before .before .before .before .before in
-    let a = start .args in
+    let a = start5 c .args in
     stands-true (now (a .s)) (a .at + 2) 0x80 0xBF (fourth-stands c)
 
 add-t12 : tie.Need-add-t12

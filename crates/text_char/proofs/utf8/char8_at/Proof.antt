@@ -5,8 +5,8 @@ use lib.ListN.{getD}
 use denote.Ref.{now}
 use borrow.Author.Needs.{needs}
 use Rattle.format.specs.Text.{wellFormed}
-use Rattle.text_char.specs.Told.{leadTold, rowTold, leadIn, chosen}
-use Rattle.text_char.proofs.Rows.{led}
+use Rattle.text_lead.specs.Told.{leadTold, rowTold, leadIn, chosen}
+use Rattle.text_lead.proofs.Rows.{led}
 use Rattle.text_char.proofs.Places.{char8-end, char8-ascii, char8-row, char8-none}
 use Rattle.text_char.proofs.utf8.char8_at.Statement.{statement}
 use Rattle.text_char.proofs.utf8.char8_at.Tie as tie

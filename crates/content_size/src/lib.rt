@@ -1,0 +1,2 @@
+// How many bytes binary and string content takes.
+pub mod content;
