@@ -19,6 +19,7 @@ use Rattle.format.proofs.Number.{Bytes, low-forth, low-back}
 use Rattle.format.proofs.Plain.{bytes-take, bytes-drop}
 use Rattle.format.proofs.DescriptorForm.{type-again}
 use Rattle.value_kind.specs.Told.{kindTold}
+use Rattle.value_kind.proofs.ScalarLaws.{width-most}
 use Rattle.packed.specs.Packed.{keepsPlaces, columnOf, noNames}
 use Rattle.packed_plain.specs.Says.{bareType, Named, Says}
 use Rattle.packed_plain.specs.declared.Plain.{Plain}
@@ -75,16 +76,6 @@ low-eight : (n : ℕ) → n < 256 ^ 4 → lowBytes 8 n ≡ lowBytes 4 n ++ (0 �
 low-eight n l =
     let q : n / 256 / 256 / 256 / 256 ≡ 0 = omega arith in
     rw q
-
-width-most : (k : Kind) → width k ≤ 16
-width-most Kind.bit = omega arith
-width-most Kind.u8 = omega arith
-width-most Kind.i16 = omega arith
-width-most Kind.i32 = omega arith
-width-most Kind.i64 = omega arith
-width-most Kind.f32 = omega arith
-width-most Kind.f64 = omega arith
-width-most Kind.guid = omega arith
 
 module _ (r : List ℕ) (b : Bytes r) (l : 16 ≤ length r) where
   part-is : (o w n : ℕ) → o + w ≤ length r → lowNat (take w (drop o r)) ≡ n → take w (drop o r) ≡ lowBytes w n

@@ -8,16 +8,7 @@ use native.Mathlib.Omega.{arith}
 use lib.ListN.{length, getD, drop, length-drop}
 use lib.Seq.{getD-drop}
 use Rattle.format.specs.Scalar.{Kind, width}
-
-some-width : (k : Kind) → 0 < width k
-some-width Kind.bit = omega arith
-some-width Kind.u8 = omega arith
-some-width Kind.i16 = omega arith
-some-width Kind.i32 = omega arith
-some-width Kind.i64 = omega arith
-some-width Kind.f32 = omega arith
-some-width Kind.f64 = omega arith
-some-width Kind.guid = omega arith
+use Rattle.value_kind.proofs.ScalarLaws.{width-some}
 
 module _ (s : List ℕ) (at : ℕ) where
   pub first-byte : getD (drop at s) 0 0 ≡ getD s at 0
@@ -27,7 +18,7 @@ module _ (s : List ℕ) (at : ℕ) where
   begins-inside l = omega (arith, l, length-drop at s)
 
   pub bytes-inside : (k : Kind) → width k ≤ length (drop at s) → at + width k ≤ length s
-  bytes-inside k l = omega (arith, l, length-drop at s, some-width k)
+  bytes-inside k l = omega (arith, l, length-drop at s, width-some k)
 
   pub behind-inside : (k : Kind) → 1 + width k ≤ length (drop at s) → at + 1 + width k ≤ length s
   behind-inside k l = omega (arith, l, length-drop at s)

@@ -4,7 +4,7 @@ ghost use mathlib.Core.Path.{_≡_};
 ghost use Prim.Native.Nat.{_+_, _≤_};
 ghost use lib.ListN.{length};
 ghost use lib.Seq.{sets};
-ghost use Rattle.format.specs.Scalar.{width, place};
+ghost use Rattle.format.specs.Scalar.{width};
 ghost use Rattle.value_kind.specs.Told.{kindTold};
 ghost use Rattle.packed_plain.specs.declared.Plain.the-variants as P;
 ghost use Rattle.plain_write.specs.Bytes.{kindBytes, plainBytes, IsSize};
@@ -13,27 +13,11 @@ use value_kind::kinds;
 use value_kind::kinds::Kind;
 use wire::Guid;
 
-// The number that says the kind.
-fn place_of(k: Kind) -> u64
-    ensures { λ r. ⌜ r ≡ place (kindTold k) ⌝ }
-{
-    match k {
-        Kind::Bit => 1,
-        Kind::U8 => 2,
-        Kind::I16 => 3,
-        Kind::I32 => 4,
-        Kind::I64 => 5,
-        Kind::F32 => 6,
-        Kind::F64 => 7,
-        Kind::Guid => 8,
-    }
-}
-
 // The bytes alone.
 fn bare_size(k: Kind, kind: u64) -> usize
     ensures { λ r. ⌜ (r ≤ 17) × IsSize (P.Bare k) kind r ⌝ }
 {
-    if kind == place_of(k) {
+    if kind == kinds::place_of(k) as u64 {
         return kinds::bytes_of(k);
     }
     0
@@ -46,7 +30,7 @@ fn counted_size(k: Kind, kind: u64) -> usize
     if kind == 0 {
         return 1;
     }
-    if kind != place_of(k) {
+    if kind != kinds::place_of(k) as u64 {
         return 0;
     }
     1 + kinds::bytes_of(k)
@@ -73,7 +57,7 @@ fn put_kind(out: &mut [u8], at: usize, k: Kind, first: u64, second: u64)
         Kind::I16 => wire::inner::put_low(out, at, first, 2),
         Kind::I32 | Kind::F32 => wire::inner::put_low(out, at, first, 4),
         Kind::I64 | Kind::F64 => wire::inner::put_low(out, at, first, 8),
-        Kind::Guid => wire::inner::put_guid(
+        Kind::Guid => guid::inner::put_guid(
             out,
             at,
             Guid {

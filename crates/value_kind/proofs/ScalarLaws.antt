@@ -4,10 +4,10 @@ use mathlib.Core.Path.{_≡_, refl, ap, _∙_}
 use mathlib.Core.Bool.{Bool, true, false, not}
 use mathlib.Core.List.{List, _∷_}
 use mathlib.Core.Option.{some}
-use Prim.Native.Nat.{ℕ, suc, _+_, _≤_}
+use Prim.Native.Nat.{ℕ, suc, _+_, _≤_, _<_}
 use native.Mathlib.Omega.{arith}
 use lib.ListN.{length}
-use lib.Dec.{ltb, lit≤}
+use lib.Dec.{ltb, lit≤, lit<}
 use Rattle.lists.specs.Pick.{pick}
 use Rattle.format.specs.Answer.{Answer, gives, Refusal, kind, long, refuseIf, wrote}
 use Rattle.format.specs.Number.{lowBytes}
@@ -117,3 +117,13 @@ width-most S.Kind.i64 = lit≤ tt
 width-most S.Kind.f32 = lit≤ tt
 width-most S.Kind.f64 = lit≤ tt
 width-most S.Kind.guid = lit≤ tt
+
+pub width-some : (k : S.Kind) → 0 < width k
+width-some S.Kind.bit = lit< tt
+width-some S.Kind.u8 = lit< tt
+width-some S.Kind.i16 = lit< tt
+width-some S.Kind.i32 = lit< tt
+width-some S.Kind.i64 = lit< tt
+width-some S.Kind.f32 = lit< tt
+width-some S.Kind.f64 = lit< tt
+width-some S.Kind.guid = lit< tt

@@ -65,7 +65,7 @@ pub fn bytes_of(k: Kind) -> usize
 }
 
 // The kind's place in the list of kinds.
-fn place_of(k: Kind) -> u8
+pub fn place_of(k: Kind) -> u8
     ensures { λ r. ⌜ r ≡ place (kindTold k) ⌝ }
 {
     match k {

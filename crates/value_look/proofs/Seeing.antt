@@ -8,13 +8,14 @@ use mathlib.Core.Option.{none, some}
 use Prim.Native.Nat.{ℕ, _+_, _<_, _≤_}
 use native.Mathlib.Nat.{zero-add}
 use native.Mathlib.Omega.{arith}
-use lib.Dec.{ltb, lit<}
+use lib.Dec.{ltb}
 use lib.ListN.{length, getD, take, drop, length-drop}
 use borrow.Author.Tests.{lt-ltb, le-ltb, eq-eqb, ne-eqb}
 use Rattle.format.specs.Answer.{Read, took, stops, further, thenRead, mapRead, missing, long, sequence}
 use Rattle.format.specs.Number.{readByte, readLow, readBytes, lowNat}
 use Rattle.format.specs.Scalar.{Kind, width, scalarOf, readScalar}
 use Rattle.format.specs.Plp.{isOdd}
+use Rattle.value_kind.proofs.ScalarLaws.{width-some}
 use Rattle.format.specs.Value.{Value, ContentKind, isText, contentValue, ofWidth, readLengthByte, shortNull, readShort}
 
 pub further-none : {A : Type 0} (r : Read A) → further 0 r ≡ r
@@ -22,16 +23,6 @@ further-none (took v n) = ap (took v) (zero-add n)
 further-none (stops e) = refl
 
 -- ---- a value of a kind from a place on
-
-width-some : (k : Kind) → 0 < width k
-width-some Kind.bit = lit< tt
-width-some Kind.u8 = lit< tt
-width-some Kind.i16 = lit< tt
-width-some Kind.i32 = lit< tt
-width-some Kind.i64 = lit< tt
-width-some Kind.f32 = lit< tt
-width-some Kind.f64 = lit< tt
-width-some Kind.guid = lit< tt
 
 module _ (k : Kind) (s : List ℕ) (at : ℕ) where
   pub scalar-there : at + width k ≤ length s →
