@@ -37,8 +37,11 @@ abbrev μ-loop : tie.MeasureT-loop
 
 -- ---- at a turn
 
+abbrev begun : tie.After-turns Inv-loop μ-loop → tie.Start Inv-loop μ-loop
+begun c = c .before .before .before .before .before .before
+
 abbrev startAt : tie.At-loop Inv-loop μ-loop → tie.Start Inv-loop μ-loop
-startAt turn = turn .before .before .before .before .before .before .before
+startAt turn = begun (turn .before)
 
 abbrev columns : tie.At-loop Inv-loop μ-loop → List Column
 columns turn = tableMade (startAt turn .args .table .now)
@@ -92,7 +95,7 @@ turns-requires c κs = search needs
 
 loop-holds : tie.Need-loop-holds Inv-loop μ-loop
 loop-holds c =
-    let a = c .before .before .before .before .before .before .args in
+    let a = begun c .args in
     let t = a .table .now in
     let vs = a .values .now in
     (zero-le, refl, filling-begins (a .buffer .now) (tableMade t) (givensMade vs) (a .out .now) (row (a .out .now) t vs (a .buffer .now)) refl)
