@@ -18,8 +18,8 @@ pub enum Form {
     Other,
 }
 
-// The form of a type byte. Only a form is promised: any byte may be told as none.
-pub fn form_of(b: u8) -> Form
+// The form of a byte below 64.
+fn low_form(b: u8) -> Form
     ensures { λ f. ⌜ IsForm f b ⌝ }
 {
     match b {
@@ -33,19 +33,37 @@ pub fn form_of(b: u8) -> Form
         0x3C => Form::Alone,
         0x3D => Form::Alone,
         0x3E => Form::Alone,
-        0x7A => Form::Alone,
-        0x7F => Form::Alone,
         0x24 => Form::Byte,
         0x26 => Form::Byte,
+        0x29 => Form::Byte,
+        0x2A => Form::Byte,
+        0x2B => Form::Byte,
+        _ => Form::Other,
+    }
+}
+
+// Of one from 64 up to 127.
+fn middle_form(b: u8) -> Form
+    ensures { λ f. ⌜ IsForm f b ⌝ }
+{
+    match b {
+        0x7A => Form::Alone,
+        0x7F => Form::Alone,
         0x68 => Form::Byte,
         0x6D => Form::Byte,
         0x6E => Form::Byte,
         0x6F => Form::Byte,
-        0x29 => Form::Byte,
-        0x2A => Form::Byte,
-        0x2B => Form::Byte,
         0x6A => Form::Digits,
         0x6C => Form::Digits,
+        _ => Form::Other,
+    }
+}
+
+// Of one from 128 on.
+fn high_form(b: u8) -> Form
+    ensures { λ f. ⌜ IsForm f b ⌝ }
+{
+    match b {
         0xA5 => Form::Short,
         0xAD => Form::Short,
         0xA7 => Form::Text,
@@ -54,4 +72,18 @@ pub fn form_of(b: u8) -> Form
         0xEF => Form::Text,
         _ => Form::Other,
     }
+}
+
+// The form of a type byte. Only a form is promised: any byte may be told as none. Three short matches
+// are inlined where one long one is not.
+pub fn form_of(b: u8) -> Form
+    ensures { λ f. ⌜ IsForm f b ⌝ }
+{
+    if b < 64 {
+        return low_form(b);
+    }
+    if b < 128 {
+        return middle_form(b);
+    }
+    high_form(b)
 }
