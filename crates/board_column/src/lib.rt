@@ -42,6 +42,11 @@ pub fn column_write(column: &[u8; 16], names: &[u64; 6], buffer: &[u8], out: &mu
     ensures answer { λ r. ⌜ r ≡ counted (wrote (fitted (columnGiven (now (column .entry)) (now (names .entry)) (now (buffer .entry))) (length (now (out .entry))))) ⌝ }
     ensures room { λ _. ⌜ now (out .exit) ≡ roomAfter (fitted (columnGiven (now (column .entry)) (now (names .entry)) (now (buffer .entry))) (length (now (out .entry)))) (now (out .entry)) ⌝ }
 {
+    // The common forms first.
+    let n = record_write::write_record(column, out);
+    if 0 < n {
+        return board_answer::at(n);
+    }
     let c = column_of(column, names);
     board_answer::answer(column_write::write_column(c, buffer, out))
 }

@@ -1,7 +1,8 @@
 -- A column that was read: the bytes made of it are its record, and the spans of its names are where they stand in the input.
 -- Assumes nothing.
-use mathlib.Core.Path.{_≡_, refl, ap, _∙_}
+use mathlib.Core.Path.{_≡_, refl, sym, ap, _∙_}
 use mathlib.Core.List.{List}
+use mathlib.Core.Option.{none}
 use Prim.Native.Nat.{ℕ, _+_, _/_}
 use native.Mathlib.Omega.{arith}
 use lib.ListN.{length}
@@ -73,6 +74,11 @@ module _ (r : Counted) (s : List ℕ) (at index : ℕ) (new column spans names :
   pub leaves-column : (c : Column) (next : ℕ) → took (columnTold s c) next ≡ read → SchemaFrom s (at + 3) (c .schema) → r ≡ counted (gives next) →
       new ≡ recordMade c index → spans ≡ namesMade (c .schema) → Leaves
   leaves-column c next e h a n m = leaves (took (columnTold s c) next) e a (n ∙ record-is s c index) (m ∙ spans-are s at (c .schema) h)
+
+  -- a column without names
+  pub leaves-bare : (c : D.Column) (next : ℕ) → took c next ≡ read → c .schema ≡ none → r ≡ counted (gives next) → new ≡ recordOf c index →
+      spans ≡ schemaSpans at none → Leaves
+  leaves-bare c next e h a n m = leaves (took c next) e a n (m ∙ ap (schemaSpans at) (sym h))
 
   pub leaves-nothing : (e : Refusal) → stops e ≡ read → r ≡ counted (refuses e) → new ≡ column → spans ≡ names → Leaves
   leaves-nothing e h a n m = leaves (stops e) h a n m

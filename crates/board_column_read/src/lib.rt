@@ -117,8 +117,8 @@ fn names_of(schema: Schema) -> [u64; 6]
     }
 }
 
-// The descriptor at a place of the bytes: its record, and where its names stand.
-pub fn column_read(
+// Any descriptor, by way of its column.
+fn read_any(
     bytes: &[u8],
     at: usize,
     index: u16,
@@ -139,4 +139,28 @@ pub fn column_read(
         }
         ColumnRead::Refused(e) => board_answer::refused(e),
     }
+}
+
+// The descriptor at a place of the bytes: its record, and where its names stand. The common forms first.
+pub fn column_read(
+    bytes: &[u8],
+    at: usize,
+    index: u16,
+    column: &mut [u8; 16],
+    names: &mut [u64; 6],
+) -> Counted
+    ensures answer { λ r. ⌜ r ≡ counted (place (recordAt index (now (bytes .entry)) at)) ⌝ }
+    ensures column { λ _. ⌜ now (column .exit) ≡ after (recordAt index (now (bytes .entry)) at) (now (column .entry)) ⌝ }
+    ensures names { λ _. ⌜ now (names .exit) ≡ after (spansAt (now (bytes .entry)) at) (now (names .entry)) ⌝ }
+{
+    if bytes.len() < at {
+        return read_any(bytes, at, index, column, names);
+    }
+    let f = record_read::read_fields(&bytes[at..]);
+    if 0 < f.size {
+        *column = record_read::record_of(f);
+        *names = [0, 0, 0, 0, 0, 0];
+        return board_answer::at(at + f.size);
+    }
+    read_any(bytes, at, index, column, names)
 }

@@ -16,12 +16,15 @@ headerNumbers h = h .type ∷ h .status ∷ h .length ∷ h .spid ∷ h .id ∷ 
 abbrev pub headerAt : List ℕ → ℕ → Read (List ℕ)
 headerAt s at = mapRead headerNumbers (readAt readHeader s at)
 
+abbrev pub headerMade : ℕ → ℕ → ℕ → ℕ → ℕ → ℕ → H.Header
+headerMade type status length spid id window = record { type = type; status = status; length = length; spid = spid; id = id; window = window }
+
 -- the header of six numbers: "unknown packet type, packet status" is 2, before anything else
 abbrev pub headerGiven : ℕ → ℕ → ℕ → ℕ → ℕ → ℕ → Answer H.Header
 headerGiven type status length spid id window =
     andThen (known packetTypes type) (λ t.
     andThen (known packetStatuses status) (λ u.
-    gives (record { type = t; status = u; length = length; spid = spid; id = id; window = window })))
+    gives (headerMade t u length spid id window)))
 
 -- the prelogin message of plain numbers: encryption is 0 to 3, mars and fed_auth are 0 or 1; another number is 2, before anything else
 abbrev pub preloginGiven : ℕ → ℕ → ℕ → ℕ → ℕ → ℕ → Answer P.Prelogin
