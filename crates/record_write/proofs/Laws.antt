@@ -122,7 +122,8 @@ module _ (r : List ℕ) (l : 16 ≤ length r) (t : TypeId) (e : typeOf (getD r 0
       ap writeColumn is ∙ (wr ∙ rw (d, type-byte (getD r 0 0) t e, append-nil (lowBytes w (lengthAt r))))
 
   pub digits-written : hasDigits t ≡ true → hasCollation t ≡ false → getD r 1 0 ≡ 0 → tailAt r ≡ 0 → lengthAt r < 256 ^ w →
-      getD r 2 0 < 256 → getD r 3 0 < 256 → (names : Schema) → writeColumn (columnOf r names) ≡ gives (getD r 0 0 ∷ (lowBytes w (lengthAt r) ++ (getD r 2 0 ∷ getD r 3 0 ∷ [])))
+      getD r 2 0 < 256 → getD r 3 0 < 256 → (names : Schema)
+      → writeColumn (columnOf r names) ≡ gives (getD r 0 0 ∷ (lowBytes w (lengthAt r) ++ (getD r 2 0 ∷ getD r 3 0 ∷ [])))
   digits-written d c g z n p x names =
       let is = unflagged-column r names t e (unflagged r l l g z) g in
       let wr = form-written t w f (lengthAt r) (getD r 2 0) (getD r 3 0) none n (rw (d, lt-ltb (getD r 2 0) 256 p, lt-ltb (getD r 3 0) 256 x)) (rw c) in
