@@ -1,2 +1,4 @@
+pub mod Lending
+pub mod Arrays
 pub mod Counted
 pub mod Decided

@@ -29,7 +29,7 @@ pub fn held_row_size(
     if inner::too_many(given) {
         return Wrote::Refused(Refusal::Rule);
     }
-    lend_write::inner::size_lent(cols, count, values, given, buffer)
+    inner::size_lent(cols, count, values, given, buffer)
 }
 
 // The row, at the front of the room.
@@ -50,5 +50,5 @@ pub fn write_held_row(
     if inner::too_many(given) {
         return Wrote::Refused(Refusal::Rule);
     }
-    lend_write::inner::write_lent(cols, count, values, given, buffer, out)
+    inner::write_lent(cols, count, values, given, buffer, out)
 }

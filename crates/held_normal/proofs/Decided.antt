@@ -12,8 +12,7 @@ use Rattle.column_type.specs.declared.Column.{Column}
 use Rattle.normal_step.specs.declared.Normal.{Normal}
 use Rattle.normal_step.specs.Told.{normalTold}
 use Rattle.row_normal.proofs.Decided.{normalBack, normal-undoes}
-use Rattle.lend_read.specs.Held.{firstColumns}
-use Rattle.held_read.specs.Held.{countedRead}
+use Rattle.held_read.specs.Held.{firstColumns, countedRead}
 
 module _ (cols : List Column) (count : ℕ) (s : List ℕ) (at : ℕ) (out : List ℕ) where
   -- the normal form of the row at the place, in the room, the columns' names parts of a buffer

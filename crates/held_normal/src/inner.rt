@@ -7,7 +7,7 @@ ghost use lib.ListN.{length};
 ghost use Rattle.format.specs.Answer.{mapRead, readAt, fittedRead, roomAfterRead};
 ghost use Rattle.format.specs.Normal.{normal};
 ghost use Rattle.normal_step.specs.Told.{normalTold};
-ghost use Rattle.lend_read.specs.Held.{firstColumns};
+ghost use Rattle.held_read.specs.Held.{firstColumns};
 use column_type::Column;
 use cursor::Cursor;
 use normal_step::Normal;

@@ -16,8 +16,7 @@ use Rattle.read_step.specs.declared.RowRead.{RowRead}
 use Rattle.read_step.specs.Told.{firstPlace, rowReadTold}
 use Rattle.row_judge.proofs.Decided.{judgedBack, judged-undoes}
 use Rattle.row_read.proofs.Decided.{readBack, read-undoes}
-use Rattle.lend_read.specs.Held.{firstColumns}
-use Rattle.held_read.specs.Held.{countedRead}
+use Rattle.held_read.specs.Held.{firstColumns, countedRead}
 
 module _ (cols : List Column) (count : ℕ) (s : List ℕ) (at : ℕ) where
   -- the row at the place, the columns' names parts of a buffer

@@ -8,12 +8,13 @@ ghost use Rattle.format.specs.Answer.{mapRead, readAt, fittedRead, roomAfterRea
 ghost use Rattle.format.specs.Row.{readRow, copiedOutRow};
 ghost use Rattle.judge_step.specs.Told.{needsOf, rowJudgedTold};
 ghost use Rattle.read_step.specs.Told.{firstPlace, rowReadTold};
-ghost use Rattle.lend_read.specs.Held.{firstColumns};
-ghost use Rattle.held_read.specs.Held.{countedRead};
+ghost use Rattle.held_read.specs.Held.{firstColumns, countedRead};
 use column_type::Column;
 use cursor::Cursor;
 use judge_step::RowJudged;
 use read_step::RowRead;
+
+mod inner;
 
 // What the row at the cursor needs, or why it cannot be read.
 pub fn judge_held_row(cols: [Column; 1024], count: usize, s: &[u8], cursor: Cursor) -> RowJudged
@@ -22,7 +23,7 @@ pub fn judge_held_row(cols: [Column; 1024], count: usize, s: &[u8], cursor: Curs
     if held::inner::too_many(count) {
         return judge_step::inner::start(count, s.len(), cursor);
     }
-    lend_read::inner::judge_lent(cols, count, s, cursor)
+    inner::judge_lent(cols, count, s, cursor)
 }
 
 // The row at the cursor: its first value's place, from which `RowPlace::value` takes the values in
@@ -41,5 +42,5 @@ pub fn read_held_row(
         let judged = judge_step::inner::start(count, s.len(), cursor);
         return read_step::inner::answer(judged, cursor);
     }
-    lend_read::inner::read_lent(cols, count, s, cursor, out)
+    inner::read_lent(cols, count, s, cursor, out)
 }

@@ -2,8 +2,7 @@
 use mathlib.Core.Path.{sym, _∙_}
 use native.Mathlib.Omega.{arith}
 use borrow.Author.Needs.{needs}
-use Rattle.held.specs.Held.{counted}
-use Rattle.lend_write.specs.Held.{firstRow}
+use Rattle.held.specs.Held.{counted, firstRow}
 use Rattle.held.proofs.Counted.{few, both-few, many-columns, many-values}
 use Rattle.held.proofs.held_row_size.Statement.{statement}
 use Rattle.held.proofs.held_row_size.Tie as tie

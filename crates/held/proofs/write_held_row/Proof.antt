@@ -4,8 +4,7 @@ use native.Mathlib.Omega.{arith}
 use borrow.Author.Needs.{needs}
 use Rattle.format.specs.Answer.{rule}
 use Rattle.wire.proofs.Writing.{refused-before}
-use Rattle.held.specs.Held.{counted}
-use Rattle.lend_write.specs.Held.{firstRow}
+use Rattle.held.specs.Held.{counted, firstRow}
 use Rattle.held.proofs.Counted.{few, both-few, many-columns, many-values}
 use Rattle.held.proofs.write_held_row.Statement.{statement}
 use Rattle.held.proofs.write_held_row.Tie as tie

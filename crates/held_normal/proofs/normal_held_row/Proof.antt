@@ -6,7 +6,7 @@ use borrow.Author.Needs.{needs}
 use Rattle.format.specs.Normal.{normal}
 use Rattle.normal_step.specs.Steps.{fitNormal}
 use Rattle.held.proofs.Counted.{few}
-use Rattle.lend_read.specs.Held.{firstColumns}
+use Rattle.held_read.specs.Held.{firstColumns}
 use Rattle.held_read.proofs.Counted.{few-read, many-leaves}
 use Rattle.held_normal.proofs.normal_held_row.Statement.{statement}
 use Rattle.held_normal.proofs.normal_held_row.Tie as tie

@@ -6,7 +6,7 @@ use Rattle.format.specs.Answer.{mapRead}
 use Rattle.format.specs.Row.{readRow, copiedOutRow}
 use Rattle.read_step.specs.Told.{firstPlace}
 use Rattle.held.proofs.Counted.{few}
-use Rattle.lend_read.specs.Held.{firstColumns}
+use Rattle.held_read.specs.Held.{firstColumns}
 use Rattle.held_read.proofs.Counted.{few-read, many-leaves}
 use Rattle.held_read.proofs.read_held_row.Statement.{statement}
 use Rattle.held_read.proofs.read_held_row.Tie as tie

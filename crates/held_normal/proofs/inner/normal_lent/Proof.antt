@@ -1,4 +1,4 @@
--- `held_normal::inner::normal_lent` meets its contract: it is the function of `lend_read`'s `Lender`, for the call `normal_row`, whose clauses of a lent
+-- `held_normal::inner::normal_lent` meets its contract: it is the function of `held_read`'s `Lender`, for the call `normal_row`, whose clauses of a lent
 -- list are this function's of the first columns. Assumes nothing.
 use mathlib.Core.List.{[], _∷_}
 use base.Logic.{id⊢}
@@ -12,7 +12,7 @@ use Rattle.row_normal.proofs.normal_row as call
 use Rattle.row_normal.proofs.normal_row.Symbol as call-def
 use Rattle.row_normal.proofs.normal_row.Symbol.{name as #row-normal·normal-row}
 use Rattle.row_normal.proofs.normal_row.Met as call-thm
-use Rattle.lend_read.proofs.Lender.{lends}
+use Rattle.held_read.proofs.Lender.{lends}
 use Rattle.held_normal.proofs.inner.normal_lent.Key.{name as #held-normal·inner·normal-lent}
 use Rattle.held_normal.proofs.inner.normal_lent as fn
 use Rattle.held_normal.proofs.inner.normal_lent.Statement as stated

@@ -12,6 +12,9 @@ use Rattle.plain_write.proofs.inner.bare_size.Tie as tie
 place-of-requires : tie.Need-place-of-requires
 place-of-requires c κs = search needs
 
+cast-if1 : tie.Need-cast-if1
+cast-if1 c = search needs
+
 bytes-of-requires : tie.Need-bytes-of-requires
 bytes-of-requires c κs = search needs
 
@@ -27,4 +30,4 @@ returns-2 : tie.Need-returns-2
 returns-2 c = let a = c .before .before .args in (omega arith, never (P.Bare (a .k)) (a .kind))
 
 pub bare-size-spec : {M : Type 1} → statement M
-bare-size-spec = tie.close (tie.spec place-of-requires bytes-of-requires returns returns-2)
+bare-size-spec = tie.close (tie.spec place-of-requires cast-if1 bytes-of-requires returns returns-2)

@@ -15,6 +15,9 @@ returns c = let a = c .before .args in (omega arith, null-size (a .k) (a .kind) 
 place-of-requires : tie.Need-place-of-requires
 place-of-requires c κs = search needs
 
+cast-if2 : tie.Need-cast-if2
+cast-if2 c = search needs
+
 returns-2 : tie.Need-returns-2
 returns-2 c = let a = c .before .before .before .args in (omega arith, never (P.Counted (a .k)) (a .kind))
 
@@ -35,4 +38,4 @@ returns-3 c =
 
 pub counted-size-spec : {M : Type 1} → statement M
 counted-size-spec =
-    tie.close (tie.spec returns place-of-requires returns-2 bytes-of-requires add-result returns-3)
+    tie.close (tie.spec returns place-of-requires cast-if2 returns-2 bytes-of-requires add-result returns-3)

@@ -3,8 +3,8 @@
 --     Call, Lender     the two signatures, for a result of any type
 --     lender f ty      the function's MIR: `f(&cols[..count], s, cursor, out)`, whose result has the MIR type ty
 --     lends            where f meets its clauses, the function meets those that follow from them, for a count of at most 1,024
--- Why it holds: a walk of that MIR. The first columns are lent for a lifetime that is made for the call (`lend_write`'s `Arrays`); the input, the cursor and
--- the room are handed on as they came, and so is what the call says of the room at its end.
+-- Why it holds: a walk of that MIR. The first columns are lent for a lifetime that is made for the call (`held`'s `Arrays`); the input, the cursor and the
+-- room are handed on as they came, and so is what the call says of the room at its end.
 -- Assumes `Given`.
 use mathlib.Core.Path.{_≡_, refl}
 use Prim.Native.Nat.{ℕ, _≤_, _<_, _^_}
@@ -51,8 +51,8 @@ use Rattle.cursor.proofs.Cursor as K
 use Rattle.cursor.proofs.Cursor.Laws as K′
 use Rattle.column_type.specs.declared.Column.{Column}
 use Rattle.column_type.proofs.Column as T
-use Rattle.lend_write.proofs.Lending.{front}
-use Rattle.lend_write.proofs.Arrays.{Columns, columnsTy, columns-vals, columns-tells, columns-typed, LentColumns, KeptColumns, lends-columns, columns-back}
+use Rattle.held.proofs.Lending.{front}
+use Rattle.held.proofs.Arrays.{Columns, columnsTy, columns-vals, columns-tells, columns-typed, LentColumns, KeptColumns, lends-columns, columns-back}
 
 -- ---- the signatures
 abbrev pub Call : RattleType → Ended

@@ -1,5 +1,5 @@
-// The thin functions that lend, for the crates of this repository: the first columns of an array, for
-// the time of one call.
+// The thin functions that lend: the first `count` columns of an array, for the time of one call. For
+// this crate alone.
 ghost use mathlib.Core.Path.{_≡_};
 ghost use mathlib.Core.List.{List};
 ghost use Prim.Native.Nat.{ℕ, _≤_};
@@ -8,7 +8,7 @@ ghost use Rattle.format.specs.Answer.{mapRead, readAt, fittedRead, roomAfterRea
 ghost use Rattle.format.specs.Row.{readRow, copiedOutRow};
 ghost use Rattle.judge_step.specs.Told.{needsOf, rowJudgedTold};
 ghost use Rattle.read_step.specs.Told.{firstPlace, rowReadTold};
-ghost use Rattle.lend_read.specs.Held.{firstColumns};
+ghost use Rattle.held_read.specs.Held.{firstColumns};
 use column_type::Column;
 use cursor::Cursor;
 use judge_step::RowJudged;

@@ -1,5 +1,5 @@
--- `lend_read::inner::judge_lent` meets its contract: a walk of its MIR, by hand. The first columns of a local array are lent for a lifetime that is made for
--- the call (`lend_write`'s `Arrays`); the input and the cursor are handed on as they came, and the call's clause is this function's.
+-- `held_read::inner::judge_lent` meets its contract: a walk of its MIR, by hand. The first columns of a local array are lent for a lifetime that is made for
+-- the call (`held`'s `Arrays`); the input and the cursor are handed on as they came, and the call's clause is this function's.
 -- Assumes nothing.
 use mathlib.Core.Path.{_≡_, refl}
 use Prim.Native.Nat.{ℕ, _≤_, _<_, _^_}
@@ -57,13 +57,13 @@ use Rattle.row_judge.proofs.judge_row as judge
 use Rattle.row_judge.proofs.judge_row.Symbol as judge-def
 use Rattle.row_judge.proofs.judge_row.Symbol.{name as #row-judge·judge-row}
 use Rattle.row_judge.proofs.judge_row.Met as judge-thm
-use Rattle.lend_write.proofs.Lending.{front}
-use Rattle.lend_write.proofs.Arrays.{Columns, columnsTy, columns-vals, columns-tells, columns-typed, LentColumns, KeptColumns, lends-columns, columns-back}
-use Rattle.lend_read.specs.Held.{firstColumns}
-use Rattle.lend_read.proofs.inner.judge_lent.Key.{name as #lend-read·inner·judge-lent}
-use Rattle.lend_read.proofs.inner.judge_lent as fn
-use Rattle.lend_read.proofs.inner.judge_lent.Statement as stated
-use Rattle.lend_read.proofs.inner.judge_lent.Code as code
+use Rattle.held.proofs.Lending.{front}
+use Rattle.held.proofs.Arrays.{Columns, columnsTy, columns-vals, columns-tells, columns-typed, LentColumns, KeptColumns, lends-columns, columns-back}
+use Rattle.held_read.specs.Held.{firstColumns}
+use Rattle.held_read.proofs.inner.judge_lent.Key.{name as #held-read·inner·judge-lent}
+use Rattle.held_read.proofs.inner.judge_lent as fn
+use Rattle.held_read.proofs.inner.judge_lent.Statement as stated
+use Rattle.held_read.proofs.inner.judge_lent.Code as code
 
 abbrev stayed : Stays (fn.ended .signature .params) (fn.ended .kept)
 stayed = (
@@ -207,7 +207,7 @@ pub judge-lent-spec : {M : Type 1} → stated.statement M
 unfolding code.routine tablesOf
 judge-lent-spec 𝓤 H 𝓜 𝓖 𝓡 =
     entered 𝓤 H (tripleOf 𝓤 H (𝓖 .A) fn.signature (fn.spec 𝓤 H (𝓖 .A) (𝓜 .mem) (𝓡 .run)))
-    (tables 𝓤 H 𝓜 𝓡 code.env .C) (tables 𝓤 H 𝓜 𝓡 code.env .Λ) #lend-read·inner·judge-lent code.function (code.unfolded 𝓤 H 𝓜 𝓡)
+    (tables 𝓤 H 𝓜 𝓡 code.env .C) (tables 𝓤 H 𝓜 𝓡 code.env .Λ) #held-read·inner·judge-lent code.function (code.unfolded 𝓤 H 𝓜 𝓡)
     (fn-meets 𝓤 H (𝓖 .A) (givenOf 𝓤 H 𝓜 𝓖) (𝓜 .mem) (𝓡 .run) (tablesOf 𝓤 H 𝓜 (tables 𝓤 H 𝓜 𝓡 code.env))
     (cited 𝓤 H (JudgeRow 𝓤 H (𝓖 .A) (𝓜 .mem) (𝓡 .run)) 𝓜 𝓡 code.env #row-judge·judge-row judge-def.routine code.calls-row-judge·judge-row
     (judge-thm.met 𝓤 H 𝓜 𝓖 𝓡)))

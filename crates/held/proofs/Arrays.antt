@@ -29,7 +29,7 @@ use Rattle.column_type.proofs.Column.Laws as T′
 use Rattle.value_kind.specs.declared.Value.{Value}
 use Rattle.value_kind.proofs.Value as Y
 use Rattle.value_kind.proofs.Value.Laws as Y′
-use Rattle.lend_write.proofs.Lending.{Kept, front, lends-front, front-back}
+use Rattle.held.proofs.Lending.{Kept, front, lends-front, front-back}
 
 -- ---- columns
 abbrev pub Columns : RattleType
