@@ -3,13 +3,13 @@
 ghost use Rattle.std.specs.Prelude.{◌≡◌};
 ghost use Rattle.bits.specs.Told.{float32_of, float32_bits, float64_of, float64_bits};
 
-#[derive(Drop)]
+#[derive(Clone, Copy)]
 pub enum Float32 {
     Value(f32),
     Nan(u32),
 }
 
-#[derive(Drop)]
+#[derive(Clone, Copy)]
 pub enum Float64 {
     Value(f64),
     Nan(u64),

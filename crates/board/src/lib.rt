@@ -2,6 +2,9 @@
 // pointer, then a length), pointers to numbers and to arrays of them, and a struct of two numbers as
 // the answer. Each export is one call of a library, whose contract it has; those of text turn the
 // library's answer into the struct.
+
+#![tactic(auto)]
+
 ghost use Rattle.std.specs.Prelude.{◌≡◌};
 ghost use lib.ListN.{length};
 ghost use Rattle.format.specs.Answer.{gives, and_then, fitted, wrote, room_after};

@@ -1,4 +1,7 @@
 // What every call for C and Rust answers: a struct of two numbers.
+
+#![tactic(auto)]
+
 ghost use Rattle.std.specs.Prelude.{◌≡◌};
 ghost use Rattle.format.specs.Answer.{gives, refuses, unknown, number};
 ghost use Rattle.wire.specs.Told.{refusal_told, wrote_told};
@@ -8,7 +11,7 @@ use wire::{Refusal, Wrote};
 
 // Refusal 0 and a count, or a refusal's number and 0.
 #[repr(C)]
-#[derive(Drop)]
+#[derive(Clone, Copy)]
 pub struct Counted {
     pub refusal: u64,
     pub count: u64,

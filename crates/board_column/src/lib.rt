@@ -1,5 +1,8 @@
 // A column's descriptor, of a record of 16 bytes and six numbers: start and units of XML_INFO's three
 // names in a lent buffer. Sized, written.
+
+#![tactic(auto)]
+
 ghost use Rattle.std.specs.Prelude.{◌≡◌, length};
 ghost use Rattle.format.specs.Answer.{fitted, wrote, room_after};
 ghost use Rattle.board_answer.specs.Told.{counted};

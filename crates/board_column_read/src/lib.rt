@@ -1,5 +1,8 @@
 // A column's descriptor, read as a record of 16 bytes, and beside it six numbers: start and units of
 // XML_INFO's three names.
+
+#![tactic(auto)]
+
 ghost use Rattle.std.specs.Prelude.{◌≡◌, ◌≤◌};
 ghost use Rattle.board_answer.specs.Told.{counted, place, after};
 ghost use Rattle.board_column_read.specs.Plain.{record_at, spans_at};

@@ -1,4 +1,7 @@
 // Numbers and GUIDs at a place of the input, as plain numbers and bytes; a GUID written.
+
+#![tactic(auto)]
+
 ghost use Rattle.std.specs.Prelude.{◌≡◌, length};
 ghost use Rattle.format.specs.Answer.{gives, read_at, fitted, wrote, room_after};
 ghost use Rattle.format.specs.Guid.{guid_order};
@@ -12,7 +15,7 @@ use board_answer::Counted;
 use wire::{Cursor, Guid, GuidRead, NumberRead, Width};
 
 // The width of a count of bytes, where there is one.
-#[derive(Drop)]
+#[derive(Clone, Copy)]
 enum WidthGiven {
     Width(Width),
     Unknown,

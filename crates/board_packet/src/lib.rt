@@ -1,4 +1,7 @@
 // The packet header both ways and the prelogin message, as plain numbers.
+
+#![tactic(auto)]
+
 ghost use Rattle.std.specs.Prelude.{◌≡◌, false, ◌+◌, ◌≤◌, eqb};
 ghost use lib.ListN.{length};
 ghost use Rattle.std.proofs.lemmas.List.Edits.{sets};

@@ -1,5 +1,8 @@
 // Rows read under a packed table of columns: what a row needs, its values three numbers each, its
 // normal form.
+
+#![tactic(auto)]
+
 ghost use Rattle.std.specs.Prelude.{◌≡◌};
 ghost use Rattle.board_answer.specs.Told.{counted, place, after};
 ghost use Rattle.board_row_read.specs.Plain.{needs_at, row_at, row_room, row_values, normal_at, written, normal_room, ends};

@@ -1,4 +1,7 @@
 // Values as three numbers, with their own descriptor in front: sized, written.
+
+#![tactic(auto)]
+
 ghost use Rattle.std.specs.Prelude.{◌≡◌, length};
 ghost use Rattle.format.specs.Answer.{fitted, wrote, room_after};
 ghost use Rattle.board_answer.specs.Told.{counted};

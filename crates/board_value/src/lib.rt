@@ -1,4 +1,7 @@
 // Values as three numbers, under a column as a record of 16 bytes: sized, written, read.
+
+#![tactic(auto)]
+
 ghost use Rattle.std.specs.Prelude.{◌≡◌, length};
 ghost use Rattle.format.specs.Answer.{fitted, wrote, room_after};
 ghost use Rattle.board_answer.specs.Told.{counted, place, after};

@@ -1,4 +1,7 @@
 // A walk over PLP chunks as six numbers: at, sum, known, total, text, ended.
+
+#![tactic(auto)]
+
 ghost use Rattle.std.specs.Prelude.{◌≡◌, eqb};
 ghost use Rattle.plp.specs.Told.{total_told, walk_told};
 ghost use Rattle.board_answer.specs.Told.{counted, place, after};
@@ -98,7 +101,7 @@ pub fn walk_open(bytes: &[u8], at: usize, text: u8, walk: &mut [u64; 6]) -> Coun
 }
 
 // The walk of six numbers, where there is one.
-#[derive(Drop)]
+#[derive(Clone, Copy)]
 enum WalkGiven {
     Walk(Walk),
     Unknown,

@@ -1,4 +1,7 @@
 // Shows the captures that its arguments name, or the one on standard input.
+
+#![tactic(auto)]
+
 ghost use Rattle.std.specs.Prelude.{◌≤◌, length};
 
 // The capture at the front of a buffer; nothing where there is none.

@@ -1,4 +1,7 @@
 // The columns of a capture: descriptors one behind another, held in an array.
+
+#![tactic(auto)]
+
 ghost use Rattle.std.specs.Prelude.{◌≡◌, ltb};
 ghost use Rattle.format.specs.Answer.{rule, stop_if, read_at};
 ghost use Rattle.format.specs.Row.{max_columns, read_columns};
@@ -9,14 +12,14 @@ use wire::{Cursor, Refusal};
 
 // Where the descriptors end; or why one of them is none, how many were read before it, and where it
 // begins.
-#[derive(Drop)]
+#[derive(Clone, Copy)]
 pub enum ColumnsEnd {
     End(Cursor),
     Refused(Refusal, usize, Cursor),
 }
 
 // The columns stand at the front of the list, where none was refused.
-#[derive(Drop)]
+#[derive(Clone, Copy)]
 pub struct CaptureColumns {
     pub list: [Column; 1024],
     pub end: ColumnsEnd,

@@ -1,5 +1,8 @@
 // What the program of captures reads: its words, and the bytes of a file. A fault that is not the
 // capture's is a plain sentence on standard error.
+
+#![tactic(auto)]
+
 ghost use Rattle.std.specs.Prelude.{◌≤◌, length};
 
 use libc::{STDERR_FILENO, STDIN_FILENO};

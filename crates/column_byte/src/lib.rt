@@ -1,4 +1,7 @@
 // The type byte, both ways.
+
+#![tactic(auto)]
+
 ghost use Rattle.std.specs.Prelude.{◌≡◌};
 ghost use Rattle.format.specs.Descriptor.{fixed_byte, byte_len_byte, u_short_len_byte, long_len_byte, type_byte, type_of, among};
 ghost use Rattle.column_type.specs.Told.{fixed_told, byte_len_told, u_short_len_told, long_len_told, type_told, type_read_told, fixed_types, byte_len_types, other_types};

@@ -1,9 +1,12 @@
 // What a descriptor is made of, by its type byte: the forms of which most columns are. Who has a form
 // reads or writes the descriptor by numbers of a constant width; who has none goes the long way.
+
+#![tactic(auto)]
+
 ghost use Rattle.column_form.specs.Form.{IsForm};
 
 // What follows the type byte.
-#[derive(Drop)]
+#[derive(Clone, Copy)]
 pub enum Form {
     // Nothing.
     Alone,

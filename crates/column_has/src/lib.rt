@@ -1,4 +1,7 @@
 // What a type's descriptor has behind its type byte.
+
+#![tactic(auto)]
+
 ghost use Rattle.std.specs.Prelude.{◌≡◌};
 ghost use Rattle.format.specs.Descriptor.{byte_len, u_short_len, long_len, has_digits, has_collation, length_width, is_described};
 ghost use Rattle.column_type.specs.Told.{byte_len_told, u_short_len_told, long_len_told, type_told, is_xml};

@@ -1,4 +1,7 @@
 // XML_INFO: the marker, and behind the marker 1 three names, kept as spans of the whole input.
+
+#![tactic(auto)]
+
 ghost use Rattle.std.specs.Prelude.{◌≡◌, ◌+◌, ◌*◌, ◌≤◌, length};
 ghost use Rattle.format.specs.Answer.{then_read, read_at};
 ghost use Rattle.format.specs.Number.{read_byte};

@@ -1,2 +1,5 @@
 // The writing pass of a descriptor.
+
+#![tactic(auto)]
+
 pub mod inner;

@@ -1,5 +1,8 @@
 // TYPE_INFO, reading: a function for each continuation of the definition. Only `read_column` is for
 // callers; the others ask that their place lies inside.
+
+#![tactic(auto)]
+
 ghost use Rattle.std.specs.Prelude.{◌≡◌, ℕ, ◌+◌, ◌≤◌, ◌^◌, length};
 ghost use Rattle.format.specs.Answer.{then_read, read_at};
 ghost use Rattle.format.specs.Number.{read_low};
@@ -13,7 +16,7 @@ use column_type::{Collation, Column, ColumnRead, Schema, TypeId, TypeRead, plain
 use wire::{ByteRead, Cursor, NumberRead, Refusal, Width};
 
 // A number and the byte behind it, and the cursor behind both.
-#[derive(Drop)]
+#[derive(Clone, Copy)]
 enum PairRead {
     Pair(u64, u8, Cursor),
     Refused(Refusal),

@@ -1,4 +1,7 @@
 // Rule 6: what a descriptor to be written or used for a value must keep.
+
+#![tactic(auto)]
+
 ghost use Rattle.std.specs.Prelude.{◌≡◌, List, ℕ, ◌^◌, ltb, eqb};
 ghost use Rattle.format.specs.Descriptor.{has_digits, has_collation, both, length_fits, digits_fit, collation_fits, schema_fits, keeps_rule, name_fits, names_fit};
 ghost use Rattle.column_type.specs.Told.{type_told, collation_told, name_told, schema_told, column_told};

@@ -1,4 +1,7 @@
 // How many bytes a descriptor takes, or why it is not written: every refusal but 4.
+
+#![tactic(auto)]
+
 ghost use Rattle.std.specs.Prelude.{◌≡◌, true, ℕ, ◌+◌, ◌*◌, ◌≤◌, length};
 ghost use Rattle.format.specs.Answer.{wrote};
 ghost use Rattle.format.specs.Descriptor.{has_digits, digits_bytes, collation_bytes, schema_bytes, column_bytes, names_fit, write_column, xml};

@@ -1,12 +1,14 @@
 // TYPE_INFO, a column's descriptor: the types, by the form of their descriptor, and the record.
 
+#![tactic(auto)]
+
 ghost use Rattle.std.specs.Prelude.{◌≡◌};
 ghost use Rattle.column_type.specs.Told.{plain_column};
 
 use wire::{Cursor, Refusal};
 
 // FIXEDLENTYPE: no length in the descriptor.
-#[derive(Drop)]
+#[derive(Clone, Copy)]
 pub enum FixedLen {
     Null,
     Int1,
@@ -23,7 +25,7 @@ pub enum FixedLen {
 }
 
 // BYTELEN_TYPE: one length byte.
-#[derive(Drop)]
+#[derive(Clone, Copy)]
 pub enum ByteLen {
     Guid,
     Intn,
@@ -39,7 +41,7 @@ pub enum ByteLen {
 }
 
 // USHORTLEN_TYPE: two length bytes.
-#[derive(Drop)]
+#[derive(Clone, Copy)]
 pub enum UShortLen {
     BigVarBin,
     BigVarChar,
@@ -50,7 +52,7 @@ pub enum UShortLen {
 }
 
 // LONGLEN_TYPE: four length bytes.
-#[derive(Drop)]
+#[derive(Clone, Copy)]
 pub enum LongLen {
     Image,
     Text,
@@ -58,7 +60,7 @@ pub enum LongLen {
 }
 
 // The types, by the form of their descriptor.
-#[derive(Drop)]
+#[derive(Clone, Copy)]
 pub enum TypeId {
     Fixed(FixedLen),
     Byte(ByteLen),
@@ -71,34 +73,34 @@ pub enum TypeId {
 }
 
 // A type byte's type.
-#[derive(Drop)]
+#[derive(Clone, Copy)]
 pub enum TypeRead {
     Type(TypeId),
     Unknown,
 }
 
 // COLLATION's four bytes as a number, and its sort byte; or none.
-#[derive(Drop)]
+#[derive(Clone, Copy)]
 pub enum Collation {
     None,
     Of(u32, u8),
 }
 
 // A name of XML_INFO: a span of the lent buffer, its start byte and its count of UTF-16 units.
-#[derive(Drop)]
+#[derive(Clone, Copy)]
 pub struct Name {
     pub start: usize,
     pub units: usize,
 }
 
 // XML_INFO's names: database, owning schema and schema collection; or none.
-#[derive(Drop)]
+#[derive(Clone, Copy)]
 pub enum Schema {
     None,
     Names(Name, Name, Name),
 }
 
-#[derive(Drop)]
+#[derive(Clone, Copy)]
 pub struct Column {
     pub ty: TypeId,
     pub length: u64,
@@ -109,14 +111,14 @@ pub struct Column {
 }
 
 // A column that was read, and the cursor behind it.
-#[derive(Drop)]
+#[derive(Clone, Copy)]
 pub enum ColumnRead {
     Column(Column, Cursor),
     Refused(Refusal),
 }
 
 // A name that was read, and the cursor behind it.
-#[derive(Drop)]
+#[derive(Clone, Copy)]
 pub enum NameRead {
     Name(Name, Cursor),
     Refused(Refusal),

@@ -1,5 +1,8 @@
 // TYPE_INFO, writing: the size first, with every refusal but 4, then the stores, none of which can
 // fail.
+
+#![tactic(auto)]
+
 ghost use Rattle.std.specs.Prelude.{◌≡◌, length};
 ghost use Rattle.format.specs.Answer.{fitted, wrote, room_after};
 ghost use Rattle.format.specs.Descriptor.{write_column};

@@ -1,2 +1,5 @@
 // How many bytes binary and string content takes.
+
+#![tactic(auto)]
+
 pub mod content;

@@ -1,6 +1,9 @@
 // The cursor that callers use: a place in the input, by value, whose methods read what stands there
 // and hand back the next cursor with the answer. Thin over the readers of the layers below, whose
 // own place is `wire::Cursor`.
+
+#![tactic(auto)]
+
 ghost use Rattle.std.specs.Prelude.{◌≡◌, List, ℕ, ◌+◌, ◌^◌, length};
 ghost use Rattle.format.specs.Answer.{map_read, read_at};
 ghost use Rattle.format.specs.Number.{read_byte, read_low, read_high};
@@ -21,49 +24,49 @@ use value_found::Found;
 use wire::{Guid, Refusal, Width};
 
 // A place in the input.
-#[derive(Drop)]
+#[derive(Clone, Copy)]
 pub struct Cursor {
     pub at: usize,
 }
 
-#[derive(Drop)]
+#[derive(Clone, Copy)]
 pub enum ByteRead {
     Byte(u8, Cursor),
     Refused(Refusal),
 }
 
-#[derive(Drop)]
+#[derive(Clone, Copy)]
 pub enum NumberRead {
     Number(u64, Cursor),
     Refused(Refusal),
 }
 
-#[derive(Drop)]
+#[derive(Clone, Copy)]
 pub enum GuidRead {
     Guid(Guid, Cursor),
     Refused(Refusal),
 }
 
-#[derive(Drop)]
+#[derive(Clone, Copy)]
 pub enum HeaderRead {
     Header(Header, Cursor),
     Refused(Refusal),
 }
 
-#[derive(Drop)]
+#[derive(Clone, Copy)]
 pub enum ColumnRead {
     Column(Column, Cursor),
     Refused(Refusal),
 }
 
-#[derive(Drop)]
+#[derive(Clone, Copy)]
 pub enum ValueRead {
     Value(Found, Cursor),
     Refused(Refusal),
 }
 
 // A walk behind the eight bytes; or the cursor behind a null, which has no chunks.
-#[derive(Drop)]
+#[derive(Clone, Copy)]
 pub enum WalkOpened {
     Walk(Walk),
     Null(Cursor),
@@ -71,7 +74,7 @@ pub enum WalkOpened {
 }
 
 // A PLP value whose content, so many bytes, stands at the front of the room.
-#[derive(Drop)]
+#[derive(Clone, Copy)]
 pub enum Joined {
     Null(Cursor),
     Content(usize, Cursor),

@@ -1,5 +1,8 @@
 // How a program uses the codec: it writes a limit, reads it back, and asks whether two rows hold the
 // same. A row has one column here.
+
+#![tactic(auto)]
+
 ghost use Rattle.std.specs.Prelude.{◌≤◌, length};
 
 use morelquilt::{

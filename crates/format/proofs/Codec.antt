@@ -82,6 +82,8 @@ module _ {T X : Type 0} {read : T → List ℕ → Read X} {write : T → X → 
       then_again (read t) (cons_read (read_all read ts)) (write t v) (write_all write ts vs) rest v (v ∷ vs)
       (λ more. (codec t).again v more f.0)
       (ap (map_read (◌∷◌ v)) (row_again ts vs rest f.1))
+  row_again [] (v ∷ vs) rest f = elim f [ ]
+  row_again (t ∷ ts) [] rest f = elim f [ ]
 
   -- what was read of bytes can be written
   pub row_fits : (ts : List T) (s : List ℕ) (vs : List X) (n : ℕ) → Bytes s → read_all read ts s ≡ took vs n → FitAll Fit ts vs

@@ -1,4 +1,7 @@
 // A GUID, written: its sixteen bytes in wire order.
+
+#![tactic(auto)]
+
 pub mod inner;
 
 ghost use Rattle.std.specs.Prelude.{◌≡◌, length};

@@ -1,4 +1,7 @@
 // The packet header of 8 bytes, both ways.
+
+#![tactic(auto)]
+
 ghost use Rattle.std.specs.Prelude.{◌≡◌, ◌+◌, ◌≤◌, length};
 ghost use Rattle.format.specs.Answer.{further, read_at, fitted, wrote, room_after};
 ghost use Rattle.format.specs.Header.{packet_types, packet_statuses, read_header, write_header};
@@ -8,7 +11,7 @@ ghost use Rattle.header.specs.Told.{type_byte, status_byte, known, type_told, st
 use wire::{Cursor, Refusal, Wrote};
 
 // The packet types, by their names in MS-TDS, "Packet Header".
-#[derive(Drop)]
+#[derive(Clone, Copy)]
 pub enum PacketType {
     SqlBatch,
     PreTds7Login,
@@ -24,7 +27,7 @@ pub enum PacketType {
 }
 
 // The packet statuses that document 01 lists, the five that the Rust has.
-#[derive(Drop)]
+#[derive(Clone, Copy)]
 pub enum PacketStatus {
     Normal,
     EndOfMessage,
@@ -33,19 +36,19 @@ pub enum PacketStatus {
     ResetConnectionSkipTran,
 }
 
-#[derive(Drop)]
+#[derive(Clone, Copy)]
 pub enum TypeRead {
     Type(PacketType),
     Unknown,
 }
 
-#[derive(Drop)]
+#[derive(Clone, Copy)]
 pub enum StatusRead {
     Status(PacketStatus),
     Unknown,
 }
 
-#[derive(Drop)]
+#[derive(Clone, Copy)]
 pub struct Header {
     pub ty: PacketType,
     pub status: PacketStatus,
@@ -55,7 +58,7 @@ pub struct Header {
     pub window: u8,
 }
 
-#[derive(Drop)]
+#[derive(Clone, Copy)]
 pub enum HeaderRead {
     Header(Header, Cursor),
     Refused(Refusal),

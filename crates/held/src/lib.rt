@@ -1,6 +1,9 @@
 // Rows for a program that holds its columns and values itself, in arrays of 1,024 places with a
 // count. Each call here lends the first `count` of them to the call that takes a lent list, so that
 // such a program is covered by the prover and needs no walk of its own.
+
+#![tactic(auto)]
+
 ghost use Rattle.std.specs.Prelude.{◌≡◌, length};
 ghost use Rattle.format.specs.Answer.{fitted, wrote, room_after};
 ghost use Rattle.wire.specs.Told.{wrote_told};

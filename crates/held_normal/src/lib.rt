@@ -1,5 +1,8 @@
 // The normal form of a row under columns that a program holds itself, in an array of 1,024 places with
 // a count: the first `count` of them are lent to the call that takes a lent list.
+
+#![tactic(auto)]
+
 ghost use Rattle.std.specs.Prelude.{◌≡◌, List, ℕ, length};
 ghost use Rattle.format.specs.Answer.{map_read, read_at, fitted_read, room_after_read};
 ghost use Rattle.format.specs.Normal.{normal};

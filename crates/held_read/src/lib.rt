@@ -1,5 +1,8 @@
 // Rows read by a program that holds its columns itself, in an array of 1,024 places with a count.
 // Each call here lends the first `count` of them to the call that takes a lent list.
+
+#![tactic(auto)]
+
 ghost use Rattle.std.specs.Prelude.{◌≡◌, List, ℕ, length};
 ghost use Rattle.format.specs.Answer.{map_read, read_at, fitted_read, room_after_read};
 ghost use Rattle.format.specs.Row.{read_row, copied_out_row};

@@ -1,4 +1,7 @@
 // One column's turn in judging a row: what the row needs so far, and one value more.
+
+#![tactic(auto)]
+
 pub mod inner;
 
 use cursor::Cursor;
@@ -6,7 +9,7 @@ use wire::Refusal;
 
 // Where a row ends, how many content bytes reading copies out, and how many bytes its normal form
 // has.
-#[derive(Drop)]
+#[derive(Clone, Copy)]
 pub struct RowNeeds {
     pub next: Cursor,
     pub joined: usize,
@@ -14,7 +17,7 @@ pub struct RowNeeds {
 }
 
 // A row that can be read, or why there is none.
-#[derive(Drop)]
+#[derive(Clone, Copy)]
 pub enum RowJudged {
     Row(RowNeeds),
     Refused(Refusal),

@@ -2,6 +2,8 @@
 // signature, under one name. docs/PUBLIC.md has each call's contract; the code stands in the crates
 // named here.
 
+#![tactic(auto)]
+
 // The cursor: a place in the input, whose methods read a byte, a number, a GUID, a packet header, a
 // column's descriptor, its value or a PLP walk, and hand back the next cursor.
 pub use cursor::{

@@ -1,5 +1,8 @@
 // Columns as records of 16 bytes, one behind another in a table: how many there are, and the column
 // of each. A record that no column packs to stands for a column that breaks the rule.
+
+#![tactic(auto)]
+
 pub mod inner;
 
 ghost use Rattle.std.specs.Prelude.{◌≡◌, true, ◌≤◌, eqb, length};

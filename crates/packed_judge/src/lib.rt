@@ -1,5 +1,8 @@
 // A row, judged under a packed table of columns: whether it can be read, where it ends, and what
 // reading it and its normal form need of a room.
+
+#![tactic(auto)]
+
 mod inner;
 
 ghost use Rattle.std.specs.Prelude.{◌≡◌};

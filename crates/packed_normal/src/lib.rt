@@ -1,5 +1,8 @@
 // The normal form of a row under a packed table of columns: all of it at the front of the room, or
 // nothing.
+
+#![tactic(auto)]
+
 mod inner;
 
 ghost use Rattle.std.specs.Prelude.{◌≡◌, List, ℕ, length};

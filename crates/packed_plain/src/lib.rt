@@ -1,12 +1,15 @@
 // Columns whose values have one width, told by the numbers of a packed record alone. Most columns of
 // most rows are such, and their values are found without making the column.
+
+#![tactic(auto)]
+
 pub mod inner;
 
 use value_kind::kinds::Kind;
 
 // The kind's bytes alone; null, or the kind behind its length byte; or a column that must be made.
 // Bits are among the last: a bit's byte is not always the one that is written again.
-#[derive(Drop)]
+#[derive(Clone, Copy)]
 pub enum Plain {
     Bare(Kind),
     Counted(Kind),

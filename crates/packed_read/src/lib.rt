@@ -1,5 +1,8 @@
 // A row, read under a packed table of columns: three numbers for each value, PLP content joined in
 // the room.
+
+#![tactic(auto)]
+
 ghost use Rattle.std.specs.Prelude.{◌≡◌, ◌*◌, length};
 ghost use Rattle.format.specs.Answer.{map_read, read_at, fitted_read, room_after_read};
 ghost use Rattle.format.specs.Row.{read_row, copied_out_row};

@@ -1,4 +1,7 @@
 // Values to be written as three numbers each: whether three numbers are a value, and the value.
+
+#![tactic(auto)]
+
 pub mod inner;
 
 ghost use Rattle.std.specs.Prelude.{◌≡◌, length};
@@ -9,7 +12,7 @@ ghost use Rattle.packed_value.specs.Made.{judged_told};
 use wire::Refusal;
 
 // Whether numbers are values.
-#[derive(Drop)]
+#[derive(Clone, Copy)]
 pub enum Judged {
     Fine,
     Refused(Refusal),

@@ -1,4 +1,7 @@
 // A row, written under a packed table of columns, its values three numbers each.
+
+#![tactic(auto)]
+
 ghost use Rattle.std.specs.Prelude.{◌≡◌, length};
 ghost use Rattle.std.proofs.Math.Option.{none};
 ghost use Rattle.format.specs.Answer.{fitted, wrote, room_after};

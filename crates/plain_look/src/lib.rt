@@ -1,2 +1,5 @@
 // How many bytes a value of one width takes in a row. No value is made.
+
+#![tactic(auto)]
+
 pub mod inner;

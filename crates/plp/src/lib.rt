@@ -1,4 +1,7 @@
 // PLP values: the eight bytes and the chunk walk with its allowance.
+
+#![tactic(auto)]
+
 mod inner;
 
 ghost use Rattle.std.specs.Prelude.{◌≡◌};
@@ -11,7 +14,7 @@ use wire::{Cursor, NumberRead, Refusal, Width};
 
 // Where a walk over chunks stands: its place, the content bytes passed, the total, whether an even
 // count is asked, and whether the last zero was taken.
-#[derive(Drop)]
+#[derive(Clone, Copy)]
 pub struct Walk {
     pub at: usize,
     pub sum: u64,
@@ -21,7 +24,7 @@ pub struct Walk {
 }
 
 // A walk behind the eight bytes; or the place behind a null, which has no chunks.
-#[derive(Drop)]
+#[derive(Clone, Copy)]
 pub enum WalkOpened {
     Walk(Walk),
     Null(Cursor),
@@ -29,14 +32,14 @@ pub enum WalkOpened {
 }
 
 // Where one head leaves a walk.
-#[derive(Drop)]
+#[derive(Clone, Copy)]
 pub enum Headed {
     Walk(Walk),
     Refused(Refusal),
 }
 
 // Where a walk stands, and how many heads it took.
-#[derive(Drop)]
+#[derive(Clone, Copy)]
 pub enum Walked {
     Walked(Walk, u64),
     Refused(Refusal),

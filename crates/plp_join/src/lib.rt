@@ -1,4 +1,7 @@
 // Whole PLP values: judged by their heads alone, and their chunks joined.
+
+#![tactic(auto)]
+
 pub mod inner;
 
 ghost use Rattle.std.specs.Prelude.{◌≡◌, length};
@@ -10,7 +13,7 @@ use plp::{WalkOpened, Walked};
 use wire::{Cursor, Refusal};
 
 // A value that keeps the rules: null, or how many content bytes it has and where it ends.
-#[derive(Drop)]
+#[derive(Clone, Copy)]
 pub enum Judged {
     Null,
     Content(usize, usize),
@@ -18,7 +21,7 @@ pub enum Judged {
 }
 
 // A value whose content, so many bytes, stands at the front of the room.
-#[derive(Drop)]
+#[derive(Clone, Copy)]
 pub enum Joined {
     Null(Cursor),
     Content(usize, Cursor),

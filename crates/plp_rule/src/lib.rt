@@ -1,4 +1,7 @@
 // The PLP rules as tests on numbers. Sums are exact: nothing is added before it is known to fit.
+
+#![tactic(auto)]
+
 ghost use Rattle.std.specs.Prelude.{◌≡◌, [], ◌+◌, ltb};
 ghost use Rattle.format.specs.Plp.{plp_bound, head_of, above_total, unlike_total, is_odd};
 ghost use Rattle.plp_rule.specs.Told.{total_told, eight_told};
@@ -6,14 +9,14 @@ ghost use Rattle.plp_rule.specs.Told.{total_told, eight_told};
 use wire::{Refusal, marks};
 
 // The total that the eight bytes say, or that they do not.
-#[derive(Drop)]
+#[derive(Clone, Copy)]
 pub enum Total {
     Unknown,
     Known(u64),
 }
 
 // What the eight bytes say.
-#[derive(Drop)]
+#[derive(Clone, Copy)]
 pub enum Eight {
     Null,
     Chunked(Total),

@@ -1,5 +1,8 @@
 // A walk object that keeps the lent input and its place, and thin functions over it. The work is
 // in `step_on`, which takes a plain slice.
+
+#![tactic(auto)]
+
 ghost use Rattle.std.specs.Prelude.{List, ◌≡◌, ℕ};
 ghost use Rattle.format.specs.Plp.{made_of, stepped};
 ghost use Rattle.plp.specs.Told.{walk_told};
@@ -9,20 +12,20 @@ use plp::{Walk, Walked};
 use wire::Refusal;
 
 // What a step reported: how many heads it took, or why it changed nothing.
-#[derive(Drop)]
+#[derive(Clone, Copy)]
 pub enum Said {
     Took(u64),
     Refused(Refusal),
 }
 
 // Where a walk stands, and what its last step reported.
-#[derive(Drop)]
+#[derive(Clone, Copy)]
 pub struct Standing {
     pub walk: Walk,
     pub said: Said,
 }
 
-#[derive(Drop)]
+#[derive(Clone, Copy)]
 pub struct WalkObject<'a> {
     pub input: &'a [u8],
     pub standing: Standing,

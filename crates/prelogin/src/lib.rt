@@ -1,4 +1,7 @@
 // The prelogin message, writing: MS-TDS, PRELOGIN.
+
+#![tactic(auto)]
+
 ghost use Rattle.std.specs.Prelude.{◌≡◌, ◌+◌, ◌≤◌, length};
 ghost use Rattle.std.proofs.lemmas.List.Edits.{sets};
 ghost use Rattle.lists.specs.Pick.{pick};
@@ -10,7 +13,7 @@ ghost use Rattle.prelogin.specs.Told.{encryption_number, prelogin_told, entry_by
 use wire::{Refusal, Wrote, inner};
 
 // ENCRYPT_OFF, ENCRYPT_ON, ENCRYPT_NOT_SUP and ENCRYPT_REQ.
-#[derive(Drop)]
+#[derive(Clone, Copy)]
 pub enum Encryption {
     Off,
     On,
@@ -18,7 +21,7 @@ pub enum Encryption {
     Required,
 }
 
-#[derive(Drop)]
+#[derive(Clone, Copy)]
 pub struct Prelogin {
     pub version: u32,
     pub sub_build: u16,

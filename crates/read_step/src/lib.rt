@@ -1,5 +1,8 @@
 // One column's turn in reading a row. A row is read in two passes: the first judges it and finds every
 // refusal but the room's, the second copies PLP content into the room and cannot fail.
+
+#![tactic(auto)]
+
 pub mod inner;
 
 use cursor::Cursor;
@@ -7,7 +10,7 @@ use row_place::RowPlace;
 use wire::Refusal;
 
 // A row that was read: its first value's place, and where the row ends; or why there is none.
-#[derive(Drop)]
+#[derive(Clone, Copy)]
 pub enum RowRead {
     Row(RowPlace, Cursor),
     Refused(Refusal),

@@ -1,5 +1,8 @@
 // A descriptor of one of the common forms, read as the numbers of its record, and the record of 16
 // bytes made of them. No column is made.
+
+#![tactic(auto)]
+
 ghost use Rattle.std.specs.Prelude.{◌≡◌};
 ghost use Rattle.record_read.specs.Told.{low, bare, AloneAt, ByteAt, DigitsAt, ShortAt, TextAt, record_made, IsRead};
 
@@ -7,7 +10,7 @@ use column_form::Form;
 
 // What stands in a record but its zeros, and how many bytes the descriptor takes. A size of 0 says that
 // nothing was read: the bytes have none of the forms, or are too few.
-#[derive(Drop)]
+#[derive(Clone, Copy)]
 pub struct Fields {
     pub size: usize,
     pub ty: u8,

@@ -1,5 +1,8 @@
 // A descriptor of one of the common forms, written from its record of 16 bytes. No column is made: the
 // numbers go from place to place, each of a constant width.
+
+#![tactic(auto)]
+
 ghost use Rattle.std.specs.Prelude.{◌≡◌, true, ◌≤◌, length};
 ghost use Rattle.record_write.specs.Told.{IsBare, IsDigits, IsText, AloneAt, ByteAt, DigitsAt, ShortAt, TextAt, Written};
 

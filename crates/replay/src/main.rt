@@ -1,4 +1,7 @@
 // Answers the frames of cases/PROTOCOL.md on standard input, a line for each.
+
+#![tactic(auto)]
+
 use wire::{Cursor, NumberRead, Width};
 
 // How many bytes the next frame has; none where the input has ended.

@@ -1,4 +1,7 @@
 // One frame's answer, by its op's number.
+
+#![tactic(auto)]
+
 use replay_number::{numbers, own, texts};
 use replay_say::fields;
 

@@ -1,4 +1,7 @@
 // capture: the columns' count, their descriptors, then a row.
+
+#![tactic(auto)]
+
 use capture_columns::ColumnsEnd;
 use cursor::Cursor;
 use replay_row_read::say_row;

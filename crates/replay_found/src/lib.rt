@@ -1,4 +1,7 @@
 // The words of a value that was read.
+
+#![tactic(auto)]
+
 use bits::float::{Float32, Float64};
 use bits::{float, signed};
 use replay_say::say;

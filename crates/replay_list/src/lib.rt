@@ -1,5 +1,8 @@
 // The lists of a frame: a count in two bytes, then that many columns or values. A list is held in an
 // array of 1,024 places; a count above them is handed on as it is, and the call refuses it.
+
+#![tactic(auto)]
+
 ghost use Rattle.std.specs.Prelude.{◌<◌, ◌≤◌};
 
 use column_type::{Column, TypeId};

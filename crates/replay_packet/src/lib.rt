@@ -1,4 +1,7 @@
 // header_read, header_write, prelogin_write.
+
+#![tactic(auto)]
+
 use header::{Header, HeaderRead, StatusRead, TypeRead};
 use prelogin::{Encryption, Prelogin};
 use replay_say::{fields, say};

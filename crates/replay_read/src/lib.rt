@@ -1,4 +1,7 @@
 // value_read.
+
+#![tactic(auto)]
+
 use cursor::{Cursor, ValueRead};
 use replay_found::{copied, show};
 use replay_say::{fields, say};

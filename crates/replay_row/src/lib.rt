@@ -1,4 +1,7 @@
 // row_write, normal.
+
+#![tactic(auto)]
+
 use cursor::Cursor;
 use normal_step::Normal;
 use replay_say::{fields, say};

@@ -1,4 +1,7 @@
 // row_read, and the words of a row's values.
+
+#![tactic(auto)]
+
 use column_type::Column;
 use cursor::Cursor;
 use read_step::RowRead;

@@ -1,4 +1,7 @@
 // The ops on whole rows, by their numbers.
+
+#![tactic(auto)]
+
 use replay_say::say;
 
 // An op on rows, with its room.

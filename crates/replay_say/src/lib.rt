@@ -1,3 +1,6 @@
 // replay_say
+
+#![tactic(auto)]
+
 pub mod fields;
 pub mod say;

@@ -1,4 +1,7 @@
 // type_read, type_write, and a column's 66 bytes in a frame.
+
+#![tactic(auto)]
+
 use column_type::{Collation, Column, ColumnRead, Name, Schema, TypeId, TypeRead};
 use replay_say::{fields, say};
 use wire::Width;

@@ -1,4 +1,7 @@
 // value_write, untyped_write, and a value's 17 bytes in a frame.
+
+#![tactic(auto)]
+
 use bits::float;
 use bits::float::{Float32, Float64};
 use replay_say::{fields, say};

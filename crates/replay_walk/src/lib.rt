@@ -1,4 +1,7 @@
 // walk_open, walk, and a walk's 27 bytes in a frame.
+
+#![tactic(auto)]
+
 use plp::{Total, Walk, WalkOpened, Walked};
 use replay_say::{fields, say};
 use wire::Width;

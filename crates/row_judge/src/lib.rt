@@ -1,5 +1,8 @@
 // A row, judged: whether it can be read under a lent list of columns, where it ends, and what reading
 // it and its normal form need of a room. No value is made, and nothing is written.
+
+#![tactic(auto)]
+
 ghost use Rattle.std.specs.Prelude.{◌≡◌, List, ℕ};
 ghost use Rattle.format.specs.Answer.{map_read, read_at};
 ghost use Rattle.format.specs.Row.{read_row};

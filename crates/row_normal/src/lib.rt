@@ -1,5 +1,8 @@
 // The normal form of a row under a lent list of columns: all of it at the front of the room, or
 // nothing.
+
+#![tactic(auto)]
+
 ghost use Rattle.std.specs.Prelude.{◌≡◌, List, ℕ, length};
 ghost use Rattle.format.specs.Answer.{map_read, read_at, fitted_read, room_after_read};
 ghost use Rattle.format.specs.Normal.{normal};

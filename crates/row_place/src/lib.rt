@@ -1,4 +1,7 @@
 // A place in a row, and the value that stands there. Nothing is copied and nothing is written.
+
+#![tactic(auto)]
+
 mod inner;
 
 ghost use Rattle.std.specs.Prelude.{◌≡◌, List, ℕ};
@@ -12,14 +15,14 @@ use value_kind::family;
 use wire::Refusal;
 
 // Where the next value stands in the input, and how many content bytes were copied out before it.
-#[derive(Drop)]
+#[derive(Clone, Copy)]
 pub struct RowPlace {
     pub cursor: Cursor,
     pub copied: usize,
 }
 
 // The value at a place and the next place, or why there is none.
-#[derive(Drop)]
+#[derive(Clone, Copy)]
 pub enum RowValue {
     Value(Found, RowPlace),
     Refused(Refusal),

@@ -1,5 +1,8 @@
 // A row, read: its values one after another under a lent list of columns, PLP content joined in the
 // room.
+
+#![tactic(auto)]
+
 ghost use Rattle.std.specs.Prelude.{◌≡◌, List, ℕ, length};
 ghost use Rattle.format.specs.Answer.{map_read, read_at, fitted_read, room_after_read};
 ghost use Rattle.format.specs.Row.{read_row, copied_out_row};

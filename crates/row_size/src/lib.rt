@@ -1,4 +1,7 @@
 // A row's size: its values one after another under a lent list of columns.
+
+#![tactic(auto)]
+
 ghost use Rattle.std.specs.Prelude.{◌≡◌};
 ghost use Rattle.format.specs.Answer.{wrote};
 ghost use Rattle.format.specs.Row.{write_row};

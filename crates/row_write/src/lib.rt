@@ -1,4 +1,7 @@
 // A row, written: its values one after another under a lent list of columns.
+
+#![tactic(auto)]
+
 ghost use Rattle.std.specs.Prelude.{◌≡◌, length};
 ghost use Rattle.format.specs.Answer.{fitted, wrote, room_after};
 ghost use Rattle.format.specs.Row.{write_row};

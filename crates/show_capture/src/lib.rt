@@ -1,5 +1,8 @@
 // A capture for a person: a line for each column, where the row ends, and its normal form; or why it
 // is refused, and how far it got.
+
+#![tactic(auto)]
+
 use capture_columns::ColumnsEnd;
 use column_type::Column;
 use cursor::Cursor;

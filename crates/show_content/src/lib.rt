@@ -1,5 +1,8 @@
 // Content for a person: bytes as hexadecimal digits, strings as text; long content is cut, and its
 // length said.
+
+#![tactic(auto)]
+
 use wire::{Refusal, Wrote};
 
 // How many bytes of content are shown.

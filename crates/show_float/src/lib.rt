@@ -2,11 +2,14 @@
 // quotient, rounded once, equals that float. Equal is as IEEE has it, and 0 equals -0: who reads the
 // decimal back gets the same bits where the float has no sign. The caller, `show_number`, takes the
 // sign away first.
+
+#![tactic(auto)]
+
 ghost use Rattle.show_float.specs.Short.{TenIn, Reads64, Reads32};
 ghost use Rattle.std.specs.Float.{binary32, binary64};
 
 // A number over a power of ten; or none that is short.
-#[derive(Drop)]
+#[derive(Clone, Copy)]
 pub enum Decimal {
     Short(u64, u64),
     Long,

@@ -1,4 +1,7 @@
 // The lines of a capture that was read; those of a refused one stand in `refused`.
+
+#![tactic(auto)]
+
 pub mod refused;
 
 use column_type::Column;

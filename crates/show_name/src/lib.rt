@@ -1,5 +1,8 @@
 // The names of types as people write them: one name, or one with numbers in brackets. Each call prints
 // it, and answers how many letters it took.
+
+#![tactic(auto)]
+
 use column_type::{FixedLen, LongLen};
 
 // A type with a number in brackets.

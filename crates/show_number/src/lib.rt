@@ -1,4 +1,7 @@
 // Numbers for a person: floats as short decimals where there is one, GUIDs in their usual form.
+
+#![tactic(auto)]
+
 use bits::float;
 use bits::float::{Float32, Float64};
 use show_float::Decimal;

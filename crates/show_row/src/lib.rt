@@ -1,4 +1,7 @@
 // The values of a row for a person, a line for each; or the first of them that is refused.
+
+#![tactic(auto)]
+
 use column_type::Column;
 use cursor::Cursor;
 use row_place::{RowPlace, RowValue};

@@ -1,4 +1,7 @@
 // A column's type as people write it. Each call prints it, and answers how many letters it took.
+
+#![tactic(auto)]
+
 use column_type::{ByteLen, Column, TypeId, UShortLen};
 use wire::marks;
 

@@ -1,4 +1,7 @@
 // A value that was read, for a person.
+
+#![tactic(auto)]
+
 use bits::float::{Float32, Float64};
 use bits::{float, signed};
 use value_found::{Found, Stand};

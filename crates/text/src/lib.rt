@@ -1,4 +1,7 @@
 // sizes and turns
+
+#![tactic(auto)]
+
 ghost use Rattle.std.specs.Prelude.{◌≡◌, length};
 ghost use Rattle.format.specs.Answer.{fitted, wrote, room_after};
 ghost use Rattle.format.specs.Text.{between, text_in, text_out};

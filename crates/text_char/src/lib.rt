@@ -1,4 +1,7 @@
 // One character of UTF-8 and of UTF-16LE: decoding, and the size.
+
+#![tactic(auto)]
+
 mod inner;
 pub mod utf16;
 pub mod utf8;
@@ -6,7 +9,7 @@ pub mod utf8;
 use wire::Refusal;
 
 // One character at a place: its scalar value and how many bytes it took.
-#[derive(Drop)]
+#[derive(Clone, Copy)]
 pub enum CharRead {
     Char(u32, usize),
     Refused(Refusal),

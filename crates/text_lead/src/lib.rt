@@ -1,12 +1,15 @@
 // The first byte of a character of UTF-8, and the row of table 3-7 of the Unicode Standard that it
 // chooses.
+
+#![tactic(auto)]
+
 ghost use Rattle.std.specs.Prelude.{◌≡◌};
 ghost use Rattle.format.specs.Text.{between, well_formed};
 ghost use Rattle.text_lead.specs.Told.{row, chosen, lead_told, lead_in};
 
 // A row of the table, by its first byte: the first byte's marker bits, the second byte's range, and
 // how many bytes of 80 to BF follow the second.
-#[derive(Drop)]
+#[derive(Clone, Copy)]
 pub struct Row {
     pub marker: u32,
     pub low: u32,
@@ -14,7 +17,7 @@ pub struct Row {
     pub more: u32,
 }
 
-#[derive(Drop)]
+#[derive(Clone, Copy)]
 pub enum Lead {
     Row(Row),
     None,

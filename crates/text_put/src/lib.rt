@@ -1,2 +1,5 @@
 // writing
+
+#![tactic(auto)]
+
 pub mod inner;

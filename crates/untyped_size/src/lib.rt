@@ -1,5 +1,8 @@
 // Untyped writing, the size pass: how many bytes a value takes with its own descriptor in front, or
 // why it cannot be written.
+
+#![tactic(auto)]
+
 ghost use Rattle.std.specs.Prelude.{◌≡◌, Bool, ◌<◌, leb, length};
 ghost use Rattle.lists.specs.Pick.{pick};
 ghost use Rattle.format.specs.Answer.{wrote};

@@ -1,4 +1,7 @@
 // Untyped writing: a value with its own descriptor in front.
+
+#![tactic(auto)]
+
 mod inner;
 
 ghost use Rattle.std.specs.Prelude.{◌≡◌, length};

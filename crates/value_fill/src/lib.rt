@@ -1,2 +1,5 @@
 // filling
+
+#![tactic(auto)]
+
 pub mod inner;

@@ -1,11 +1,14 @@
 // What was found in a row: a value by its kind, and where its content stands.
+
+#![tactic(auto)]
+
 pub mod inner;
 
 use value_kind::{Scalar, Span};
 use wire::{Cursor, Refusal};
 
 // Where content stands: a part of the input, its start counted in the whole input; or of the room.
-#[derive(Drop)]
+#[derive(Clone, Copy)]
 pub enum Stand {
     Input(Span),
     Room(Span),
@@ -13,7 +16,7 @@ pub enum Stand {
 
 // A value that was read. A string is its UTF-16LE bytes. It is no value to be written, whose string
 // is UTF-8 in a buffer of its own.
-#[derive(Drop)]
+#[derive(Clone, Copy)]
 pub enum Found {
     Null,
     Scalar(Scalar),
@@ -22,7 +25,7 @@ pub enum Found {
 }
 
 // The value at a place and the next place, or why there is none.
-#[derive(Drop)]
+#[derive(Clone, Copy)]
 pub enum ValueRead {
     Value(Found, Cursor),
     Refused(Refusal),

@@ -8,7 +8,7 @@ ghost use Rattle.value_kind.specs.Form.{same_content};
 use crate::kinds::{Kind, Listed};
 use column_type::{ByteLen, FixedLen, TypeId, UShortLen};
 
-#[derive(Drop)]
+#[derive(Clone, Copy)]
 pub enum ContentKind {
     Binary,
     String,
@@ -16,7 +16,7 @@ pub enum ContentKind {
 
 // The bytes alone, a length byte and one of the listed kinds, content behind its length; or a type
 // whose values are not carried.
-#[derive(Drop)]
+#[derive(Clone, Copy)]
 pub enum Family {
     Fixed(Kind),
     LengthByte(Listed),

@@ -11,7 +11,7 @@ use crate::Scalar;
 use bits::float::{Float32, Float64};
 use column_type::ByteLen;
 
-#[derive(Drop)]
+#[derive(Clone, Copy)]
 pub enum Kind {
     Bit,
     U8,
@@ -24,7 +24,7 @@ pub enum Kind {
 }
 
 // The kinds that a type with a length byte lists.
-#[derive(Drop)]
+#[derive(Clone, Copy)]
 pub enum Listed {
     Integers,
     Bits,

@@ -1,11 +1,14 @@
 // kinds and families
+
+#![tactic(auto)]
+
 pub mod family;
 pub mod kinds;
 
 use wire::Guid;
 
 // A value of a fixed width. A NaN's pattern is a case of its own beside the float.
-#[derive(Drop)]
+#[derive(Clone, Copy)]
 pub enum Scalar {
     Bit(bool),
     U8(u8),
@@ -20,14 +23,14 @@ pub enum Scalar {
 }
 
 // A part of the lent buffer.
-#[derive(Drop)]
+#[derive(Clone, Copy)]
 pub struct Span {
     pub start: usize,
     pub count: usize,
 }
 
 // A value to be written: binary and string content are spans of the lent buffer, a string's in UTF-8.
-#[derive(Drop)]
+#[derive(Clone, Copy)]
 pub enum Value {
     Null,
     Scalar(Scalar),

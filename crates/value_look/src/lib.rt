@@ -1,4 +1,7 @@
 // What the rest of a row begins with under a column's family: numbers only, no value is made.
+
+#![tactic(auto)]
+
 mod listed;
 
 ghost use Rattle.std.specs.Prelude.{◌≡◌, false, ℕ, eqb, drop};
@@ -20,7 +23,7 @@ use wire::{Refusal, marks};
 
 // A null of so many bytes; a kind and where its bytes start; content of a kind, where it starts and
 // how many bytes it has; PLP content; or a refusal. Places count from the value's first byte.
-#[derive(Drop)]
+#[derive(Clone, Copy)]
 pub enum Seen {
     Null(usize),
     Scalar(Kind, usize),

@@ -8,7 +8,7 @@ use value_kind::kinds;
 use value_kind::kinds::{Kind, Listed};
 
 // The kind of a width, or none that the type lists.
-#[derive(Drop)]
+#[derive(Clone, Copy)]
 pub enum ListedKind {
     Kind(Kind),
     Unlisted,

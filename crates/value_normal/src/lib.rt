@@ -1,8 +1,11 @@
 // One value's turn in copying a row to its normal form.
+
+#![tactic(auto)]
+
 pub mod inner;
 
 // The input's bytes from `from` up to `at` are still to be copied, to the room from `put` on.
-#[derive(Drop)]
+#[derive(Clone, Copy)]
 pub struct Run {
     pub from: usize,
     pub at: usize,

@@ -1,4 +1,7 @@
 // Content as a part of the caller's own bytes: of a span, and of the short value at a place.
+
+#![tactic(auto)]
+
 ghost use Rattle.std.specs.Prelude.{◌≡◌, List, ℕ};
 ghost use Rattle.format.specs.Found.{handed_back};
 ghost use Rattle.column_type.specs.Told.{column_told};

@@ -1,4 +1,7 @@
 // One column value, read: its kind, where its content stands, and the next place.
+
+#![tactic(auto)]
+
 ghost use Rattle.std.specs.Prelude.{◌≡◌, List, ℕ};
 ghost use Rattle.column_type.specs.Told.{column_told};
 ghost use Rattle.value_found.specs.Told.{value_read_told, CanonicalRead};

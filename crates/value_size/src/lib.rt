@@ -1,2 +1,5 @@
 // How many bytes a value takes under its column's family.
+
+#![tactic(auto)]
+
 pub mod size;

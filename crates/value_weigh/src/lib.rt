@@ -1,5 +1,8 @@
 // What one value in the rest of a row weighs: how many bytes it takes, how many content bytes
 // reading copies out, and how many its normal form has. No value is made.
+
+#![tactic(auto)]
+
 ghost use Rattle.std.specs.Prelude.{◌≡◌};
 ghost use Rattle.format.specs.Answer.{map_read};
 ghost use Rattle.format.specs.Plp.{read_plp};
@@ -16,7 +19,7 @@ use wire::Refusal;
 
 // The bytes that a value takes, the content bytes that reading copies out (PLP's alone), and the
 // bytes of its normal form; or why there is no value.
-#[derive(Drop)]
+#[derive(Clone, Copy)]
 pub enum Weighed {
     Fine(usize, usize, usize),
     Refused(Refusal),

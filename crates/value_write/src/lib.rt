@@ -1,5 +1,7 @@
 // One column value: what it may be, and its bytes under a type or without one.
 
+#![tactic(auto)]
+
 ghost use Rattle.std.specs.Prelude.{◌≡◌, length};
 ghost use Rattle.format.specs.Answer.{fitted, wrote, room_after};
 ghost use Rattle.format.specs.Value.{write_family, write_value};

@@ -1,5 +1,8 @@
 // What every layer reads and answers with: the refusals, the cursor and what it reads: bytes, numbers
 // over the width, GUIDs.
+
+#![tactic(auto)]
+
 pub mod inner;
 pub mod marks;
 
@@ -9,7 +12,7 @@ ghost use Rattle.format.specs.Number.{read_byte, read_low, read_high};
 ghost use Rattle.wire.specs.Told.{width_of, byte_told, number_told, NumberBelow, guid_told, read_guid};
 
 // Document 01's refusals, in the order of its table.
-#[derive(Drop)]
+#[derive(Clone, Copy)]
 pub enum Refusal {
     Missing,
     Unknown,
@@ -23,14 +26,14 @@ pub enum Refusal {
 }
 
 // What a writer answers: how many bytes stand at the front of the room, or why none was written.
-#[derive(Drop)]
+#[derive(Clone, Copy)]
 pub enum Wrote {
     Bytes(usize),
     Refused(Refusal),
 }
 
 // The widths of a number.
-#[derive(Drop)]
+#[derive(Clone, Copy)]
 pub enum Width {
     One,
     Two,
@@ -39,31 +42,31 @@ pub enum Width {
 }
 
 // A place in the input.
-#[derive(Drop)]
+#[derive(Clone, Copy)]
 pub struct Cursor {
     pub at: usize,
 }
 
-#[derive(Drop)]
+#[derive(Clone, Copy)]
 pub enum ByteRead {
     Byte(u8, Cursor),
     Refused(Refusal),
 }
 
-#[derive(Drop)]
+#[derive(Clone, Copy)]
 pub enum NumberRead {
     Number(u64, Cursor),
     Refused(Refusal),
 }
 
 // A GUID in text order: its first eight bytes and its last eight, each high byte first.
-#[derive(Drop)]
+#[derive(Clone, Copy)]
 pub struct Guid {
     pub high: u64,
     pub low: u64,
 }
 
-#[derive(Drop)]
+#[derive(Clone, Copy)]
 pub enum GuidRead {
     Guid(Guid, Cursor),
     Refused(Refusal),

@@ -1,4 +1,7 @@
 // The words that the programs print: text, whole numbers, bytes as hexadecimal digits.
+
+#![tactic(auto)]
+
 ghost use Rattle.std.specs.Prelude.{◌≡◌, ◌<◌, ◌≤◌, length};
 ghost use Rattle.format.specs.Answer as Answer;
 ghost use Rattle.wire.specs.Told.{refusal_told};
