@@ -29,25 +29,31 @@ pub returns-in-Null : goal.returns-in-Null
 returns-in-Null c =
     let a = c.args in
     let e = join_told (content_kind_told a.k) a.copied in
-    let l = lent_rest a.out.now _ a.copied in(
-      λ d t. sym (ap e c.in-Null.is) ∙ (answers (goal.at.returns-in-Null c).After-join_in-joined d t).answered,
-      (tt, λ d t. l ∙ (answers (goal.at.returns-in-Null c).After-join_in-joined d t).stays),
-    )
+    let l = lent_rest a.out.now _ a.copied in
+    record {
+      told = λ d t. sym (ap e c.in-Null.is) ∙ (answers (goal.at.returns-in-Null c).After-join_in-joined d t).answered;
+      canonical = tt;
+      room = λ d t. l ∙ (answers (goal.at.returns-in-Null c).After-join_in-joined d t).stays;
+    }
 
 pub returns-in-Content : goal.returns-in-Content
 returns-in-Content c =
     let a = c.args in
     let e = join_told (content_kind_told a.k) a.copied in
-    let l = lent_rest a.out.now _ a.copied in(
-      λ d t. same_found _ c.content_found-found.ensures.told ∙ (sym (ap e c.in-Content.is) ∙ (answers (goal.at.returns-in-Content c).After-join_in-joined d t).answered),
-      (c.content_found-found.ensures.canonical, λ d t. l ∙ (answers (goal.at.returns-in-Content c).After-join_in-joined d t).stays),
-    )
+    let l = lent_rest a.out.now _ a.copied in
+    record {
+      told = λ d t. same_found _ c.content_found-found.ensures.told ∙ (sym (ap e c.in-Content.is) ∙ (answers (goal.at.returns-in-Content c).After-join_in-joined d t).answered);
+      canonical = c.content_found-found.ensures.canonical;
+      room = λ d t. l ∙ (answers (goal.at.returns-in-Content c).After-join_in-joined d t).stays;
+    }
 
 pub returns-in-Refused : goal.returns-in-Refused
 returns-in-Refused c =
     let a = c.args in
     let e = join_told (content_kind_told a.k) a.copied in
-    let l = lent_rest a.out.now _ a.copied in(
-      λ d t. sym (ap e c.in-Refused.is) ∙ (answers (goal.at.returns-in-Refused c).After-join_in-joined d t).answered,
-      (tt, λ d t. l ∙ (answers (goal.at.returns-in-Refused c).After-join_in-joined d t).stays),
-    )
+    let l = lent_rest a.out.now _ a.copied in
+    record {
+      told = λ d t. sym (ap e c.in-Refused.is) ∙ (answers (goal.at.returns-in-Refused c).After-join_in-joined d t).answered;
+      canonical = tt;
+      room = λ d t. l ∙ (answers (goal.at.returns-in-Refused c).After-join_in-joined d t).stays;
+    }

@@ -55,10 +55,12 @@ told c x e = sym (ap (seen_told c.args.rest.now) e) ∙ c.look-seen.ensures.told
 pub returns-in-Null : goal.returns-in-Null
 returns-in-Null c =
     let a = c.args in
-    let e = told (goal.at.returns-in-Null c).After-look-seen _ c.in-Null.is in(
-      λ d l. (null-found d a.at a.copied a.out.now _ _ e).answered,
-      (tt, λ d l. (null-found d a.at a.copied a.out.now _ _ e).stays),
-    )
+    let e = told (goal.at.returns-in-Null c).After-look-seen _ c.in-Null.is in
+    record {
+      told = λ d l. (null-found d a.at a.copied a.out.now _ _ e).answered;
+      canonical = tt;
+      room = λ d l. (null-found d a.at a.copied a.out.now _ _ e).stays;
+    }
 
 pub returns-in-Scalar : goal.returns-in-Scalar
 returns-in-Scalar c =
@@ -66,34 +68,42 @@ returns-in-Scalar c =
     let e = told (goal.at.returns-in-Scalar c).After-look-seen _ c.in-Scalar.is in
     let v = scalar_told c.scalar_at-v.result in
     let f : took (Value.scalar v) (c.in-Scalar.from + c.bytes_of.result) ≡ read (goal.at.returns-in-Scalar c).After-look-seen =
-    rw (c.scalar_at-v.ensures.told, c.bytes_of.ensures) e in(
-      λ d l. (scalar-found d a.at a.copied a.out.now _ _ _ f).answered,
-      (c.scalar_at-v.ensures.canonical, λ d l. (scalar-found d a.at a.copied a.out.now _ _ _ f).stays),
-    )
+    rw (c.scalar_at-v.ensures.told, c.bytes_of.ensures) e in
+    record {
+      told = λ d l. (scalar-found d a.at a.copied a.out.now _ _ _ f).answered;
+      canonical = c.scalar_at-v.ensures.canonical;
+      room = λ d l. (scalar-found d a.at a.copied a.out.now _ _ _ f).stays;
+    }
 
 pub returns-in-Part : goal.returns-in-Part
 returns-in-Part c =
     let a = c.args in
     let k = content_kind_told c.in-Part.k in
     let h = lies (goal.at.returns-in-Part c).After-look-seen _ c.in-Part.is in
-    let e = told (goal.at.returns-in-Part c).After-look-seen _ c.in-Part.is in(
-      λ d l. same_found _ c.content_found-found.ensures.told ∙ (part-found d a.at a.copied a.out.now (rw l h.2) _ k a.rest.now _ _ h.0 h.1 e).answered,
-      (c.content_found-found.ensures.canonical, λ d l. (part-found d a.at a.copied a.out.now (rw l h.2) _ k a.rest.now _ _ h.0 h.1 e).stays),
-    )
+    let e = told (goal.at.returns-in-Part c).After-look-seen _ c.in-Part.is in
+    record {
+      told = λ d l. same_found _ c.content_found-found.ensures.told ∙ (part-found d a.at a.copied a.out.now (rw l h.2) _ k a.rest.now _ _ h.0 h.1 e).answered;
+      canonical = c.content_found-found.ensures.canonical;
+      room = λ d l. (part-found d a.at a.copied a.out.now (rw l h.2) _ k a.rest.now _ _ h.0 h.1 e).stays;
+    }
 
 pub returns-in-Plp : goal.returns-in-Plp
 returns-in-Plp c =
     let a = c.args in
     let h = lies (goal.at.returns-in-Plp c).After-look-seen _ c.in-Plp.is in
-    let e = told (goal.at.returns-in-Plp c).After-look-seen _ c.in-Plp.is in(
-      λ d l. c.join_value.ensures.told d (rw l h) ∙ ap (λ (r : Read Value). map_read (found_of d a.at a.copied) (behind d r a.at (length a.out.now - a.copied))) e,
-      (c.join_value.ensures.canonical.0, λ d l. c.join_value.ensures.canonical.1 d (rw l h) ∙ ap (λ (r : Read Value). room_behind d r a.at a.copied a.out.now) e),
-    )
+    let e = told (goal.at.returns-in-Plp c).After-look-seen _ c.in-Plp.is in
+    record {
+      told = λ d l. c.join_value.ensures.told d (rw l h) ∙ ap (λ (r : Read Value). map_read (found_of d a.at a.copied) (behind d r a.at (length a.out.now - a.copied))) e;
+      canonical = c.join_value.ensures.canonical;
+      room = λ d l. c.join_value.ensures.room d (rw l h) ∙ ap (λ (r : Read Value). room_behind d r a.at a.copied a.out.now) e;
+    }
 
 pub returns-in-Refused : goal.returns-in-Refused
 returns-in-Refused c =
     let a = c.args in
-    let e = told (goal.at.returns-in-Refused c).After-look-seen _ c.in-Refused.is in(
-      λ d l. (stops-found d a.at a.copied a.out.now _ _ e).answered,
-      (tt, λ d l. (stops-found d a.at a.copied a.out.now _ _ e).stays),
-    )
+    let e = told (goal.at.returns-in-Refused c).After-look-seen _ c.in-Refused.is in
+    record {
+      told = λ d l. (stops-found d a.at a.copied a.out.now _ _ e).answered;
+      canonical = tt;
+      room = λ d l. (stops-found d a.at a.copied a.out.now _ _ e).stays;
+    }
