@@ -83,7 +83,8 @@ NAMES_AND_LISTS = [
     Sabotage('README.md', '     1  int                   4711\n', '     1  int                   4712\n', './show samples/corridor.tds does not print what is shown'),
     Sabotage('crates/capture/stdout', 'begins at byte 12\n', 'begins at byte 13\n', './show samples/wrong-total.tds does not print what is shown'),
     Sabotage('crates/example_limits/src/main.rt', 'fn main() {', 'fn main() {\n    words::text(b"");', 'crates/example_limits/src/main.rt is not what is shown'),
-    Sabotage('crates/capture/data/cut.tds', '', '\0', 'cut.tds'),
+    Sabotage('crates/capture/data/cut.tds', '', '\0', 'crates/capture/data/cut.tds is not what'),
+    Sabotage('samples/cut.tds', '', '\0', 'samples/cut.tds is not what'),
     Sabotage('crates.txt', 'column_rule: column_has column_type wire format lists\n', '', 'crates/column_rule is not listed in crates.txt'),
     # the ways in from C and Rust
     Sabotage('bindings/c/morelquilt.h', 'uint8_t width, uint8_t high', 'uint8_t high, uint8_t width', 'morelquilt.h: morelquilt_number_read has the parameters bytes, bytes_length, at, high, width, to'),
