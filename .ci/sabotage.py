@@ -82,7 +82,7 @@ NAMES_AND_LISTS = [
     # what README.md shows
     Sabotage('README.md', '     1  int                   4711\n', '     1  int                   4712\n', './show samples/corridor.tds does not print what is shown'),
     Sabotage('crates/capture/stdout', 'begins at byte 12\n', 'begins at byte 13\n', './show samples/wrong-total.tds does not print what is shown'),
-    Sabotage('crates/example_limits/src/main.rt', 'fn main() {', 'fn main() {\n    words::text(b"");', 'crates/example_limits/src/main.rt is not what is shown'),
+    Sabotage('crates/example_limits/src/main.rt', 'fn main(', 'fn stray() {}\n\nfn main(', 'crates/example_limits/src/main.rt is not what is shown'),
     Sabotage('crates/capture/data/cut.tds', '', '\0', 'crates/capture/data/cut.tds is not what'),
     Sabotage('samples/cut.tds', '', '\0', 'samples/cut.tds is not what'),
     Sabotage('crates.txt', 'column_rule: column_has column_type wire format lists\n', '', 'crates/column_rule is not listed in crates.txt'),

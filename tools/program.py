@@ -21,7 +21,7 @@ def built(name):
     binary = crate / 'out' / name
     if binary.is_file() and newest(ROOT / 'crates') < binary.stat().st_mtime:
         return binary
-    print('proving and building %s: some minutes the first time, a few seconds later on' % name, file=sys.stderr)
+    print('proving and building %s: a while the first time, a few seconds later on' % name, file=sys.stderr)
     # `rt run` says that it runs a program that is proved and built, here on no input.
     done = subprocess.run(['rt', 'run'], cwd=crate, stdin=subprocess.DEVNULL, stdout=subprocess.DEVNULL, stderr=subprocess.PIPE, text=True)
     if 'rt: running out/%s;' % name not in done.stderr:
