@@ -10,18 +10,16 @@ use Rattle.column_name.proofs.read_name.Goals as goal
 pub read_units-requires : goal.read_units-requires
 read_units-requires c =
     let a = c.args in
-    let g = c.n-1.given in
-    (next_inside (read_low (width_of a.w)) a.s.now a.cursor.at (stays_low (width_of a.w)) g.0.0 g.0.1.0.at
-    (sym c.low.ensures.0 ∙ ap number_told g.1)).1
+    (next_inside (read_low (width_of a.w)) a.s.now a.cursor.at (stays_low (width_of a.w)) c.in-Number.n c.in-Number.next.at
+    (sym c.low.ensures.0 ∙ ap number_told c.in-Number.is)).1
 
 pub returns-in-Number : goal.returns-in-Number
 returns-in-Number c =
     let a = c.args in
-    let g = c.n-1.given in
-    let e = sym c.low.ensures.0 ∙ ap number_told g.1 in
-    let m = low_next a.s.now a.cursor.at (width_of a.w) g.0.0 g.0.1.0.at e in (
+    let e = sym c.low.ensures.0 ∙ ap number_told c.in-Number.is in
+    let m = low_next a.s.now a.cursor.at (width_of a.w) c.in-Number.n c.in-Number.next.at e in (
       c.read_units.ensures.0 ∙
-          sym (at_then (read_low (width_of a.w)) read_units a.s.now a.cursor.at (stays_low (width_of a.w)) g.0.0 g.0.1.0.at e),
+          sym (at_then (read_low (width_of a.w)) read_units a.s.now a.cursor.at (stays_low (width_of a.w)) c.in-Number.n c.in-Number.next.at e),
       rw m at
           c.read_units.ensures.1,
     )
@@ -29,6 +27,5 @@ returns-in-Number c =
 pub returns-in-Refused : goal.returns-in-Refused
 returns-in-Refused c =
     let a = c.args in
-    let g = c.e-1.given in
-    let e = sym c.low.ensures.0 ∙ ap number_told g.1 in
-    (sym (at_then_stops (read_low (width_of a.w)) read_units a.s.now a.cursor.at (refusal_told g.0.0) e), tt)
+    let e = sym c.low.ensures.0 ∙ ap number_told c.in-Refused.is in
+    (sym (at_then_stops (read_low (width_of a.w)) read_units a.s.now a.cursor.at (refusal_told c.in-Refused.e) e), tt)

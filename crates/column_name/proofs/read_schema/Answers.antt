@@ -15,18 +15,16 @@ use Rattle.column_name.proofs.read_schema.Goals as goal
 pub read_second-requires : goal.read_second-requires
 read_second-requires c =
     let a = c.args in
-    let g = c.first-1.given in
-    let f : NameFrom a.s.now (a.cursor.at + 1) (NR.Name g.0.0 g.0.1.0) = rw g.1 at c.read_name.ensures.1 in
+    let f : NameFrom a.s.now (a.cursor.at + 1) (NR.Name c.in-Name.first c.in-Name.next) = rw c.in-Name.is at c.read_name.ensures.1 in
     (f.1, f.2)
 
 pub returns-in-Name : goal.returns-in-Name
 returns-in-Name c =
     let a = c.args in
-    let g = c.first-1.given in
-    let t = g.0.0 in
-    let next = g.0.1.0 in
-    let f : NameFrom a.s.now (a.cursor.at + 1) (NR.Name t next) = rw g.1 at c.read_name.ensures.1 in
-    let e = sym c.read_name.ensures.0 ∙ ap (name_read_told a.s.now) g.1 in
+    let t = c.in-Name.first in
+    let next = c.in-Name.next in
+    let f : NameFrom a.s.now (a.cursor.at + 1) (NR.Name t next) = rw c.in-Name.is at c.read_name.ensures.1 in
+    let e = sym c.read_name.ensures.0 ∙ ap (name_read_told a.s.now) c.in-Name.is in
     let h = eq-eqb a.marker schema_marker c.if-marker-eq1.true in (
       c.read_second.ensures.0
           ∙ sym (at_taken (eqb a.marker schema_marker) (then_read (read_name 1) read_second) (plain xml 0) a.s.now a.cursor.at h
@@ -37,11 +35,10 @@ returns-in-Name c =
 pub returns-in-Refused : goal.returns-in-Refused
 returns-in-Refused c =
     let a = c.args in
-    let g = c.e-1.given in
-    let e = sym c.read_name.ensures.0 ∙ ap (name_read_told a.s.now) g.1 in
+    let e = sym c.read_name.ensures.0 ∙ ap (name_read_told a.s.now) c.in-Refused.is in
     let h = eq-eqb a.marker schema_marker c.if-marker-eq1.true in (
       sym (at_taken (eqb a.marker schema_marker) (then_read (read_name 1) read_second) (plain xml 0) a.s.now a.cursor.at h
-          ∙ at_then_stops (read_name 1) read_second a.s.now a.cursor.at (refusal_told g.0.0) e),
+          ∙ at_then_stops (read_name 1) read_second a.s.now a.cursor.at (refusal_told c.in-Refused.e) e),
       tt,
     )
 

@@ -13,18 +13,16 @@ use Rattle.column_name.proofs.read_second.Goals as goal
 pub read_third-requires : goal.read_third-requires
 read_third-requires c =
     let a = c.args in
-    let g = c.second-1.given in
-    let f : NameFrom a.s.now (a.cursor.at + 1) (NR.Name g.0.0 g.0.1.0) = rw g.1 at c.read_name.ensures.1 in
+    let f : NameFrom a.s.now (a.cursor.at + 1) (NR.Name c.in-Name.second c.in-Name.next) = rw c.in-Name.is at c.read_name.ensures.1 in
     (c.requires.1, f.2)
 
 pub returns-in-Name : goal.returns-in-Name
 returns-in-Name c =
     let a = c.args in
-    let g = c.second-1.given in
-    let t = g.0.0 in
-    let next = g.0.1.0 in
-    let f : NameFrom a.s.now (a.cursor.at + 1) (NR.Name t next) = rw g.1 at c.read_name.ensures.1 in
-    let e = sym c.read_name.ensures.0 ∙ ap (name_read_told a.s.now) g.1 in (
+    let t = c.in-Name.second in
+    let next = c.in-Name.next in
+    let f : NameFrom a.s.now (a.cursor.at + 1) (NR.Name t next) = rw c.in-Name.is at c.read_name.ensures.1 in
+    let e = sym c.read_name.ensures.0 ∙ ap (name_read_told a.s.now) c.in-Name.is in (
       c.read_third.ensures.0
           ∙
           sym
@@ -37,6 +35,5 @@ returns-in-Name c =
 pub returns-in-Refused : goal.returns-in-Refused
 returns-in-Refused c =
     let a = c.args in
-    let g = c.e-1.given in
-    let e = sym c.read_name.ensures.0 ∙ ap (name_read_told a.s.now) g.1 in
-    (sym (at_then_stops (read_name 1) (read_third (name_bytes a.s.now a.first)) a.s.now a.cursor.at (refusal_told g.0.0) e), tt)
+    let e = sym c.read_name.ensures.0 ∙ ap (name_read_told a.s.now) c.in-Refused.is in
+    (sym (at_then_stops (read_name 1) (read_third (name_bytes a.s.now a.first)) a.s.now a.cursor.at (refusal_told c.in-Refused.e) e), tt)

@@ -14,11 +14,10 @@ use Rattle.column_name.proofs.read_third.Goals as goal
 pub returns-in-Name : goal.returns-in-Name
 returns-in-Name c =
     let a = c.args in
-    let g = c.third-1.given in
-    let t = g.0.0 in
-    let next = g.0.1.0 in
-    let f : NameFrom a.s.now (a.cursor.at + 2) (NR.Name t next) = rw g.1 at c.read_name.ensures.1 in
-    let e = sym c.read_name.ensures.0 ∙ ap (name_read_told a.s.now) g.1 in
+    let t = c.in-Name.third in
+    let next = c.in-Name.next in
+    let f : NameFrom a.s.now (a.cursor.at + 2) (NR.Name t next) = rw c.in-Name.is at c.read_name.ensures.1 in
+    let e = sym c.read_name.ensures.0 ∙ ap (name_read_told a.s.now) c.in-Name.is in
     let w = with_names (name_bytes a.s.now a.first) (name_bytes a.s.now a.second) in (
       ap (λ (k : D.Column). took k next.at) (names_told a.s.now a.first a.second t c.requires.0 c.requires.1 f.2)
           ∙ sym (at_map-took w (read_name 2) a.s.now a.cursor.at (name_bytes a.s.now t) next.at e),
@@ -28,10 +27,9 @@ returns-in-Name c =
 pub returns-in-Refused : goal.returns-in-Refused
 returns-in-Refused c =
     let a = c.args in
-    let g = c.e-1.given in
-    let e = sym c.read_name.ensures.0 ∙ ap (name_read_told a.s.now) g.1 in (
+    let e = sym c.read_name.ensures.0 ∙ ap (name_read_told a.s.now) c.in-Refused.is in (
       sym
           (at_map-stops (with_names (name_bytes a.s.now a.first) (name_bytes a.s.now a.second)) (read_name 2) a.s.now a.cursor.at
-          (refusal_told g.0.0) e),
+          (refusal_told c.in-Refused.e) e),
       tt,
     )

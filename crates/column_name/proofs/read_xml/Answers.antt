@@ -12,26 +12,23 @@ use Rattle.column_name.proofs.read_xml.Goals as goal
 pub read_schema-requires : goal.read_schema-requires
 read_schema-requires c =
     let a = c.args in
-    let g = c.marker-1.given in
-    (next_inside read_byte a.s.now a.cursor.at stays_byte g.0.0 g.0.1.0.at (sym c.byte.ensures ∙ ap byte_told g.1)).1
+    (next_inside read_byte a.s.now a.cursor.at stays_byte c.in-Byte.marker c.in-Byte.next.at (sym c.byte.ensures ∙ ap byte_told c.in-Byte.is)).1
 
 pub returns-in-Byte : goal.returns-in-Byte
 returns-in-Byte c =
     let a = c.args in
-    let g = c.marker-1.given in
-    let e = sym c.byte.ensures ∙ ap byte_told g.1 in
-    let p : a.cursor.at + 2 ≡ g.0.1.0.at + 1 = omega (arith, byte_next a.s.now a.cursor.at g.0.0 g.0.1.0.at e) in
+    let e = sym c.byte.ensures ∙ ap byte_told c.in-Byte.is in
+    let p : a.cursor.at + 2 ≡ c.in-Byte.next.at + 1 = omega (arith, byte_next a.s.now a.cursor.at c.in-Byte.marker c.in-Byte.next.at e) in
     record {
-      told = c.read_schema.ensures.0 ∙ sym (at_then read_byte read_schema a.s.now a.cursor.at stays_byte g.0.0 g.0.1.0.at e);
+      told = c.read_schema.ensures.0 ∙ sym (at_then read_byte read_schema a.s.now a.cursor.at stays_byte c.in-Byte.marker c.in-Byte.next.at e);
       names = rw p c.read_schema.ensures.1;
     }
 
 pub returns-in-Refused : goal.returns-in-Refused
 returns-in-Refused c =
     let a = c.args in
-    let g = c.e-1.given in
-    let e = sym c.byte.ensures ∙ ap byte_told g.1 in
+    let e = sym c.byte.ensures ∙ ap byte_told c.in-Refused.is in
     record {
-      told = sym (at_then_stops read_byte read_schema a.s.now a.cursor.at (refusal_told g.0.0) e);
+      told = sym (at_then_stops read_byte read_schema a.s.now a.cursor.at (refusal_told c.in-Refused.e) e);
       names = tt;
     }

@@ -27,20 +27,17 @@ loop-at-init c =
     record { inside = search rules; within = search rules; same = refl; holds = front_none _ _; left = in_gives s (given (text_in s)) (fits (goal.at.loop-at-init c).Start).0 }
 
 -- the character that was read
-read : (c : In-Char) → let l =
-    ⟪At-loop⟫ in Stands char8 l.before.before.before.args.s.now l.loop.at c.in-Char.c c.in-Char.k
+read : (c : In-Char) → Stands char8 c.args.s.now c.loop-at.at c.in-Char.c c.in-Char.k
 read c = stands8 c.loop-at-test.true (sym (ap char_told c.in-Char.is) ∙ c.char8_at-t.ensures)
 
 pub put_char16-o-requires : goal.put_char16-o-requires
 put_char16-o-requires c = write_room c.loop-at.invariant (read (goal.at.put_char16-o-requires c).In-Char) (fits (goal.at.put_char16-o-requires c).Start).1
 
 pub loop-at-preserved : goal.loop-at-preserved
-loop-at-preserved c =
-    let p = c.put_char16-o in
-    write_more c.loop-at.invariant (read (goal.at.loop-at-preserved c).In-Char) (fits (goal.at.loop-at-preserved c).Start).1 p.ensures.0 p.ensures.1
+loop-at-preserved c = write_more c.loop-at.invariant (read (goal.at.loop-at-preserved c).In-Char) (fits (goal.at.loop-at-preserved c).Start).1 c.put_char16-o.ensures.size c.put_char16-o.ensures.room
 
 pub overflow_add-o : goal.overflow_add-o
-overflow_add-o c = omega (arith, (loop-again c).within, (fits (goal.at.overflow_add-o c).Start).1, c.well_formed)
+overflow_add-o c = omega (arith, (loop-at-preserved c).within, (fits (goal.at.overflow_add-o c).Start).1, c.well_formed)
 
 pub overflow_add-at : goal.overflow_add-at
 overflow_add-at c = omega (arith, read (goal.at.overflow_add-at c).In-Char, c.well_formed)

@@ -34,8 +34,7 @@ bytes_at_in_char : (c : In-Char) → Bytes c.args.u.now
 bytes_at_in_char c i = omega (arith, c.type_inv.u i)
 
 -- the character that was read
-read : (c : In-Char) → let l =
-    ⟪At-loop⟫ in Stands char16 l.before.before.before.args.u.now l.loop.at c.in-Char.c c.in-Char.k
+read : (c : In-Char) → Stands char16 c.args.u.now c.loop-at.at c.in-Char.c c.in-Char.k
 read c =
     stands16 (bytes_at_in_char c) c.loop-at-test.true
     (sym (ap char_told c.in-Char.is) ∙ c.char16_at-t.ensures)
@@ -44,12 +43,10 @@ pub put_char8-o-requires : goal.put_char8-o-requires
 put_char8-o-requires c = (last16 (bytes (goal.at.put_char8-o-requires c).At-loop-at) (read (goal.at.put_char8-o-requires c).In-Char), write_room c.loop-at.invariant (read (goal.at.put_char8-o-requires c).In-Char) (fits (goal.at.put_char8-o-requires c).Start).1)
 
 pub loop-at-preserved : goal.loop-at-preserved
-loop-at-preserved c =
-    let p = c.put_char8-o in
-    write_more c.loop-at.invariant (read (goal.at.loop-at-preserved c).In-Char) (fits (goal.at.loop-at-preserved c).Start).1 p.ensures.0 p.ensures.1
+loop-at-preserved c = write_more c.loop-at.invariant (read (goal.at.loop-at-preserved c).In-Char) (fits (goal.at.loop-at-preserved c).Start).1 c.put_char8-o.ensures.size c.put_char8-o.ensures.room
 
 pub overflow_add-o : goal.overflow_add-o
-overflow_add-o c = omega (arith, (loop-again c).within, (fits (goal.at.overflow_add-o c).Start).1, c.well_formed)
+overflow_add-o c = omega (arith, (loop-at-preserved c).within, (fits (goal.at.overflow_add-o c).Start).1, c.well_formed)
 
 pub overflow_add-at : goal.overflow_add-at
 overflow_add-at c = omega (arith, read (goal.at.overflow_add-at c).In-Char, c.well_formed)
