@@ -37,7 +37,7 @@ fn shown(rt: &impl Print, h: Header) -> io::Result<()> {
 
 pub fn header_write(rt: &impl Print, frame: &[u8], room: &mut [u8]) -> io::Result<()> {
     let TypeRead::Type(ty) = header::type_of(fields::byte(frame, 5)) else {
-        say::bad(rt);
+        return say::bad(rt);
     };
     let StatusRead::Status(status) = header::status_of(fields::byte(frame, 6)) else {
         return say::bad(rt);
