@@ -37,9 +37,9 @@ def source(root):
     exports, structs = {}, {}
     text = ''.join(path.read_text() for path in sorted((root / SOURCE).glob('*.rt')))
     text = re.sub(r'(?m)//.*$', '', text)
-    for name, inside, answer in re.findall(r'#\[no_mangle\]\s*pub extern "C" fn (\w+)\(([^)]*)\)\s*->\s*(\w+)', text):
+    for name, inside, answer in re.findall(r'#\[unsafe\(no_mangle\)\]\s*pub extern "C" fn (\w+)\(([^)]*)\)\s*->\s*(\w+)', text):
         exports[name] = [parameter for one in split(inside) for parameter in of_source(*re.split(r'\s*:\s*', one, maxsplit=1))] + [('answer', answer)]
-    if text.count('#[no_mangle]') != len(exports):
+    if text.count('no_mangle') != len(exports):
         raise ValueError('%s: an export stands where it is not looked for' % SOURCE)
     for path in sorted(root.glob('crates/board*/src/*.rt')):
         structs.update(rust_structs(path.read_text()))
@@ -131,17 +131,17 @@ def parameter_faults(where, structs, name, mine, proved):
 
 
 # What the places of a record hold, in the words of `record_of` and of what it is made of: field, and how many bytes.
-PLACES = re.compile(r'(type_byte) \(c \.type\)|\((collation_flag) .*? \+ schema_flag .*?\) ∷|low_bytes (\d) (?:\(c \.)?(\w+)\)?|c \.(\w+) ∷|\b(0) ∷')
-FIELDS = {'typeByte': 'ty', 'collationFlag': 'flags', 'info': 'collation', '0': 'zero', 'index': 'names'}
+PLACES = re.compile(r'(type_byte) c\.type|\((collation_flag) .*? \+ schema_flag .*?\) ∷|low_bytes (\d) (?:c\.)?(\w+)|c\.(\w+) ∷|\b(0) ∷')
+FIELDS = {'type_byte': 'ty', 'collation_flag': 'flags', 'info': 'collation', '0': 'zero', 'index': 'names'}
 
 
 def record_places(root):
     """The fields of a column's record, with their widths, by the definition."""
     text = (root / 'crates/packed/specs/Packed.antt').read_text()
-    body = ' '.join(re.search(r'(?m)^recordOf c index =\n((?: +.*\n)+)', text)[1].split())
-    for part in ('collationPlaces', 'indexPlaces'):
+    body = ' '.join(re.search(r'(?m)^record_of c index =\n((?: +.*\n)+)', text)[1].split())
+    for part in ('collation_places', 'index_places'):
         present = re.search(r'(?m)^%s \(some \w+\)(?: index)? = (.*)$' % part, text)[1]
-        body = re.sub(r'%s \(c \.\w+\)(?: index)?' % part, lambda _: present, body)
+        body = re.sub(r'%s c\.\w+(?: index)?' % part, lambda _: present, body)
     found = []
     for typed, flags, width, wide, single, zero in PLACES.findall(body):
         name = typed or flags or wide or single or zero

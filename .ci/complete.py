@@ -20,7 +20,7 @@ import json
 import pathlib
 import re
 
-from sources import Sources
+from sources import Sources, clause_lines
 
 FACADE = 'morelquilt'
 COLUMNS = ['Call', 'Proved as', 'Contract', 'Definition', 'Decided by', 'Must-fail edits']
@@ -28,7 +28,7 @@ EXPORTER = 'board'
 LINE = 160
 EXPORT_COLUMNS = ['Export', 'Proved as', 'Contract', 'Definition', 'Must-fail edits']
 # What the short words of an export's contract stand for.
-SHORT = {'W of': ['wrote', 'fitted', 'roomAfter'], 'R of': ['place', 'after']}
+SHORT = {'W of': ['wrote', 'fitted', 'room_after'], 'R of': ['place', 'after']}
 # Calls without two wrong programs among their edits. Each is one expression proved by hand along the
 # compiled code, where other code is refused for its shape whatever it computes; their edits change the
 # promise. One that has two wrong programs by now is a fault too.
@@ -62,7 +62,7 @@ class Public:
 def dependencies(root):
     """Crate to the crates that it is built on, by crates.txt: those that it lists, and theirs."""
     lines = (line.partition('#')[0].strip() for line in (root / 'crates.txt').read_text().splitlines())
-    uses = {name.strip(): set(rest.split()) for name, _, rest in (line.partition(':') for line in lines if line)}
+    uses = {head.split()[0]: set(rest.split()) for head, _, rest in (line.partition(':') for line in lines if line)}
     for _ in uses:
         for listed in uses.values():
             listed |= {further for name in listed for further in uses.get(name, ())}
@@ -83,8 +83,9 @@ def wrong_programs(root):
         file, olds = edit_fields(path)
         if file is None or file.suffix != '.rt' or not file.is_file():
             continue
-        lines = [line for line in file.read_text().splitlines() if any(old in line for old in olds)]
-        if not any('⌜' in line or line.startswith('ghost ') for line in lines):
+        lines = file.read_text().splitlines()
+        clauses = clause_lines(lines)
+        if not any(number in clauses or line.startswith('ghost ') for number, line in enumerate(lines) if any(old in line for old in olds)):
             found.add('%s!%s' % (path.parent.parent.name, path.stem))
     return found
 
@@ -115,7 +116,7 @@ def edits_faults(call, home, cell, uses, wrong):
 
 def said_words(cells):
     """The words of a row's contract, and its definition."""
-    return re.findall(r'[A-Za-z]{3,}', ' '.join(quoted(cells[2]))) + [word.rpartition('.')[2] for word in quoted(cells[3])[:1]]
+    return re.findall(r'[A-Za-z_]{3,}', ' '.join(quoted(cells[2]))) + [word.rpartition('.')[2] for word in quoted(cells[3])[:1]]
 
 
 def row_faults(cells, exported, sources, uses, wrong):
@@ -129,10 +130,10 @@ def row_faults(cells, exported, sources, uses, wrong):
         yield '%s is proved as %s' % (call, item.path)
     contract = sources.contract(item.path)
     said = said_words(cells)
-    if (reads := re.search(r'\broomAfter\w+', contract)) and reads[0] not in cells[2]:
+    if (reads := re.search(r'\broom_after\w+', contract)) and reads[0] not in cells[2]:
         yield '%s has a room, and its row does not say %s' % (call, reads[0])
-    if cells[2].startswith('W of ') or re.search(r'\broomAfter\b', contract):
-        said += ['wroteTold', 'wrote', 'fitted', 'roomAfter']
+    if cells[2].startswith('W of ') or re.search(r'\broom_after\b', contract):
+        said += ['wrote_told', 'wrote', 'fitted', 'room_after']
         if not cells[2].startswith('W of '):
             yield '%s has a room, and its row does not say W' % call
     yield from contract_faults(call, contract, said)
@@ -228,7 +229,7 @@ def inner_faults(root):
         public = 'pub mod inner;' in sources[path.with_name('lib.rt')]
         if ('for the crates of this repository' if public else 'For this crate alone') not in head:
             yield '%s does not say for whom it is' % path.relative_to(root)
-        if public and not any(re.search(r'\b%s::inner\b' % crate, text) for other, text in sources.items() if other.parent.parent != path.parent.parent):
+        if public and not any(re.search(r'\b%s::(\{[^}]*)?\binner\b' % crate, text) for other, text in sources.items() if other.parent.parent != path.parent.parent):
             yield '%s is for no crate but its own, and is public' % path.relative_to(root)
 
 
@@ -246,7 +247,7 @@ def edit_faults(root):
 
 def width_faults(root):
     """Lines of definitions and proofs that are too long to be read."""
-    for path in sorted((root / 'crates').glob('*/*/**/*.antt')):
+    for path in sorted(path for part in ('specs', 'proofs') for path in root.glob('crates/*/%s/**/*.antt' % part)):
         for number, line in enumerate(path.read_text().splitlines(), 1):
             if len(line) > LINE:
                 yield '%s:%d: %d characters, above %d' % (path.relative_to(root), number, len(line), LINE)

@@ -1,8 +1,8 @@
 """The names on the pages. In backquotes a page says
 
-      `Header.read_header`                a definition, of crates/format/specs/Header.antt
-      `format/proofs/Marked.all-marked`  a theorem, of crates/format/proofs/Marked.antt
-      `header/specs/Told.header_told`     a definition, of crates/header/specs/Told.antt
+      `Header.read_header`               a definition, of crates/format/specs/Header.antt
+      `format/proofs/Marked.all_marked`  a theorem, of crates/format/proofs/Marked.antt
+      `header/specs/Told.header_told`    a definition, of crates/header/specs/Told.antt
       `header::read_header`              a call, type or module, by its whole path from the crate
       `header!id_twice`                  a must-fail edit, crates/header/must-fail/id_twice.edit
       `cases:header-cut`                 a tag of cases/*.jsonl

@@ -24,10 +24,10 @@ class Sabotage(NamedTuple):
 
 # A wrong name of each kind. Each is put on every page.
 WRONG_NAMES = [
-    ('definition', 'Header.readHaeder'),
-    ('definition or theorem', 'format/proofs/Normal.no-such-theorem'),
-    ('definition or theorem', 'header/specs/Told.noSuchDefinition'),
-    ('definition or theorem', 'wire/proofs/Decided.wroteBack'),         # there, but not `pub`
+    ('definition', 'Header.read_haeder'),
+    ('definition or theorem', 'format/proofs/Normal.no_such_theorem'),
+    ('definition or theorem', 'header/specs/Told.no_such_definition'),
+    ('definition or theorem', 'wire/proofs/Decided.wrote_back'),        # there, but not `pub`
     ('definition or theorem', 'format/proofs/Codec.again'),             # a record's field, no theorem
     ('public call, type or module', 'header::nonsense::read_header'),
     ('public call, type or module', 'header::header_in'),               # private
@@ -42,14 +42,14 @@ NAMES_AND_LISTS = [
     # calls and types
     Sabotage('crates/header/src/lib.rt', 'pub fn type_byte(', 'pub fn stray() {}\n\npub fn type_byte(', 'header::stray is a `pub fn` on neither list'),
     Sabotage('crates/cursor/src/lib.rt', '    pub fn high(', '    pub fn stray(self) {}\n\n    pub fn high(', 'morelquilt::Cursor::stray is not listed'),
-    Sabotage('crates/morelquilt/src/lib.rt', 'pub use header::Header;', 'pub use header::Header;\npub use header::type_of;', 'morelquilt::type_of is not listed'),
-    Sabotage('crates/morelquilt/src/lib.rt', 'pub use text::to_utf8;\n', '', 'morelquilt::to_utf8 is listed, and not handed on'),
-    Sabotage('crates/morelquilt/src/lib.rt', 'pub use wire::Guid;\n', '', 'the type morelquilt::Guid is listed, and not handed on'),
+    Sabotage('crates/morelquilt/src/lib.rt', 'pub use header::{Header, ', 'pub use header::{Header, type_of, ', 'morelquilt::type_of is not listed'),
+    Sabotage('crates/morelquilt/src/lib.rt', 'pub use text::{to_utf8, ', 'pub use text::{', 'morelquilt::to_utf8 is listed, and not handed on'),
+    Sabotage('crates/morelquilt/src/lib.rt', 'pub use wire::{Guid, ', 'pub use wire::{', 'the type morelquilt::Guid is listed, and not handed on'),
     Sabotage('crates/prelogin/src/lib.rt', 'pub fn write_prelogin(', 'pub(crate) fn write_prelogin(', 'morelquilt hands on morelquilt::write_prelogin, which is not public'),
     Sabotage('crates/column_rule/src/lib.rt', 'pub fn names_fit(', 'fn names_fit(', 'there is no public call, type or module column_rule::names_fit'),
     Sabotage('crates/text_lead/src/lib.rt', 'pub fn within(low: u32, high: u32, n: u32) -> bool\n',
-             'pub fn within(low: u32, high: u32, n: u32) -> bool\n    requires { ⌜ low ≤ high ⌝ }\n', 'text_lead::within has a `requires`'),
-    Sabotage('crates/text/src/lib.rt', '    ensures { λ r. ⌜ wrote_told r ≡ wrote (text_in (now (s .entry))) ⌝ }\n{', '{', 'morelquilt::utf16_size has no contract'),
+             'pub fn within(low: u32, high: u32, n: u32) -> bool\n    requires { low ≤ high }\n', 'text_lead::within has a `requires`'),
+    Sabotage('crates/text/src/lib.rt', '    ensures { wrote_told result ≡ wrote (text_in s.now) }\n{', '{', 'morelquilt::utf16_size has no contract'),
     Sabotage('crates/format/specs/Guid.antt', '-- ', '-- %s ' % ('long ' * 40), 'crates/format/specs/Guid.antt:1: '),
     # docs/PUBLIC.md
     Sabotage('docs/PUBLIC.md', ', `morelquilt::Span`', '', 'the type morelquilt::Span is not listed'),
@@ -58,22 +58,22 @@ NAMES_AND_LISTS = [
     Sabotage('docs/PUBLIC.md', '`untyped_size!string_by_units`', '`format!untyped_bound_moved`', 'morelquilt::untyped_size has 1 wrong programs among its edits'),
     Sabotage('.ci/complete.py', 'PROMISE_ONLY = [', "PROMISE_ONLY = ['morelquilt::Cursor::low', ", 'morelquilt::Cursor::low has 2 wrong programs among its edits, and is listed as having none'),
     Sabotage('docs/PUBLIC.md', 'are wrong programs; the others', 'were wrong programs; the others', 'are wrong programs, and the page does not say so'),
-    Sabotage('docs/PUBLIC.md', '| `header_told r ≡ read_at read_header s at` |', '| `header_told r ≡ read_at read_column s at` |', 'its contract does not say readColumn'),
+    Sabotage('docs/PUBLIC.md', '| `header_told result ≡ read_at read_header s at` |', '| `header_told result ≡ read_at read_column s at` |', 'its contract does not say read_column'),
     Sabotage('docs/PUBLIC.md', '| `column_size::column_size` |', '| `column_write::write_column` |', 'morelquilt::column_size is proved as column_size::column_size'),
     Sabotage('docs/PUBLIC.md', '`text!room_one_short`, ', '`value_write!room_one_short`, ', 'morelquilt::to_utf16 does not use the crate of value_write!room_one_short'),
-    Sabotage('docs/PUBLIC.md', ', and the room afterwards ≡ `room_after_join text s at room`', '', 'morelquilt::Cursor::join_plp has a room, and its row does not say roomAfterJoin'),
+    Sabotage('docs/PUBLIC.md', ', and the room afterwards ≡ `room_after_join text s at room`', '', 'morelquilt::Cursor::join_plp has a room, and its row does not say room_after_join'),
     Sabotage('crates/columns/src/inner.rt', ', for the crates of this repository.', '.', 'crates/columns/src/inner.rt does not say for whom it is'),
     Sabotage('crates/untyped_write/src/lib.rt', 'mod inner;', 'pub mod inner;', 'crates/untyped_write/src/inner.rt is for no crate but its own, and is public'),
     # the exports
-    Sabotage('crates/board/src/lib.rt', '// How many bytes UTF-8 takes in UTF-16LE.\n', '#[no_mangle]\npub extern "C" fn morelquilt_stray() -> Counted\n{\n    board_answer::unknown()\n}\n\n// ',
+    Sabotage('crates/board/src/lib.rt', '// How many bytes UTF-8 takes in UTF-16LE.\n', '#[unsafe(no_mangle)]\npub extern "C" fn morelquilt_stray() -> Counted\n{\n    board_answer::unknown()\n}\n\n// ',
              'morelquilt_stray is not listed'),
     Sabotage('docs/PUBLIC.md', '| `morelquilt_guid_write` |', '| `morelquilt_guid_wrote` |', 'morelquilt_guid_wrote is listed, and not exported by crates/board'),
     Sabotage('crates/board/src/lib.rt', 'board_packet::header_read(bytes, at, fields)', 'board_packet::header_reads(bytes, at, fields)',
              'morelquilt_header_read is proved as board_packet::header_reads'),
-    Sabotage('docs/PUBLIC.md', 'R of `number_at width high s at`', 'R of `guid_at width high s at`', 'morelquilt_number_read: its contract does not say guidAt'),
-    Sabotage('docs/PUBLIC.md', '| R of `walk_at text s at` |', '| `r ≡ counted (place (walk_at text s at))` |', 'morelquilt_walk_open: its row does not say after'),
-    Sabotage('docs/PUBLIC.md', ', and the walk afterwards ≡ `walk_after (walk_step allowed s walk) walk`', '', 'morelquilt_walk_step: its row does not say walkAfter'),
-    Sabotage('docs/PUBLIC.md', ', and the names afterwards ≡ `after (spans_at s at) names`', '', 'morelquilt_column_read: its row does not say spansAt'),
+    Sabotage('docs/PUBLIC.md', 'R of `number_at width high s at`', 'R of `guid_at width high s at`', 'morelquilt_number_read: its contract does not say guid_at'),
+    Sabotage('docs/PUBLIC.md', '| R of `walk_at text s at` |', '| `result ≡ counted (place (walk_at text s at))` |', 'morelquilt_walk_open: its row does not say after'),
+    Sabotage('docs/PUBLIC.md', ', and the walk afterwards ≡ `walk_after (walk_step allowed s walk) walk`', '', 'morelquilt_walk_step: its row does not say walk_after'),
+    Sabotage('docs/PUBLIC.md', ', and the names afterwards ≡ `after (spans_at s at) names`', '', 'morelquilt_column_read: its row does not say spans_at'),
     Sabotage('docs/PUBLIC.md', '`board_packet!three_refused`, ', '', 'morelquilt_prelogin_write has 1 must-fail edits'),
     # edits and crates
     Sabotage('crates/header/must-fail/id_twice.edit', '', None, 'there is no must-fail edit header!id_twice'),
@@ -82,8 +82,9 @@ NAMES_AND_LISTS = [
     # what README.md shows
     Sabotage('README.md', '     1  int                   4711\n', '     1  int                   4712\n', './show samples/corridor.tds does not print what is shown'),
     Sabotage('crates/capture/stdout', 'begins at byte 12\n', 'begins at byte 13\n', './show samples/wrong-total.tds does not print what is shown'),
-    Sabotage('crates/example_limits/src/main.rt', 'fn main() {', 'fn main() {\n    words::text(b"");', 'crates/example_limits/src/main.rt is not what is shown'),
-    Sabotage('crates/capture/data/cut.tds', '', '\0', 'cut.tds'),
+    Sabotage('crates/example_limits/src/main.rt', 'fn main(', 'fn stray() {}\n\nfn main(', 'crates/example_limits/src/main.rt is not what is shown'),
+    Sabotage('crates/capture/data/cut.tds', '', '\0', 'crates/capture/data/cut.tds is not what'),
+    Sabotage('samples/cut.tds', '', '\0', 'samples/cut.tds is not what'),
     Sabotage('crates.txt', 'column_rule: column_has column_type wire format lists\n', '', 'crates/column_rule is not listed in crates.txt'),
     # the ways in from C and Rust
     Sabotage('bindings/c/morelquilt.h', 'uint8_t width, uint8_t high', 'uint8_t high, uint8_t width', 'morelquilt.h: morelquilt_number_read has the parameters bytes, bytes_length, at, high, width, to'),
@@ -98,7 +99,7 @@ NAMES_AND_LISTS = [
     Sabotage('bindings/rust/morelquilt/src/walk.rs', '// SAFETY: ', '// ', 'walk.rs:46: an unsafe block that does not say why it is sound'),
     Sabotage('crates/board/src/lib.rt', 'fn morelquilt_to_utf16(text: &[u8], out: &mut [u8])', 'fn morelquilt_to_utf16(text: &[u8], out: &mut [u16])',
              'morelquilt.h: out of morelquilt_to_utf16 is mut u8, and in the source mut u16'),
-    Sabotage('crates/packed/specs/Packed.antt', '∷ c .precision ∷ c .scale', '∷ c .scale ∷ c .precision', "and by record_of [('ty', 'u8'), ('flags', 'u8'), ('scale', 'u8')"),
+    Sabotage('crates/packed/specs/Packed.antt', '∷ c.precision ∷ c.scale', '∷ c.scale ∷ c.precision', "and by record_of [('ty', 'u8'), ('flags', 'u8'), ('scale', 'u8')"),
     Sabotage('docs/BOARD.md', '`morelquilt_guid_read`', 'it', 'docs/BOARD.md: morelquilt_guid_read is not named'),
     Sabotage('docs/BOARD.md', '`tds/codec/header.rs:154` | `decode`', '`tds/codec/header.rs:155` | `decode`', 'docs/BOARD.md: decode does not stand at tds/codec/header.rs:155'),
     # docs/TRACE.md: evidence
@@ -132,7 +133,7 @@ ALONE = [
 
 
 def copied(folder):
-    shutil.copytree(ROOT, folder, ignore=shutil.ignore_patterns('.git', 'target', '__pycache__'))
+    shutil.copytree(ROOT, folder, ignore=shutil.ignore_patterns('.git', 'target', 'out', '__pycache__'))
 
 
 def apply(folder, sabotage):

@@ -1,5 +1,5 @@
 """What README.md shows is what there is: each `./show samples/..` with the lines that the program prints (crates/capture/stdout, which the proofs' run holds
-to the program), each crate's source with the file, and the samples with what tools/samples.py makes."""
+to the program), each crate's source with the file, and the samples, in samples/ and where the program's run reads them, with what tools/samples.py makes."""
 import re
 import subprocess
 import sys

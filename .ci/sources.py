@@ -14,6 +14,7 @@ CONSTANT = re.compile(r'pub const (\w+)\s*:')
 MODULE = re.compile(r'pub mod (\w+);')
 REEXPORT = re.compile(r'pub use ([\w:]+)::(\w+|\{[^}]*\});')
 IMPL = re.compile(r'impl (\w+) \{')
+CLAUSE = re.compile(r'\s*(?:ensures|requires)\b')
 VARIANT = re.compile(r'    ([A-Z]\w*)\b')
 
 
@@ -28,6 +29,7 @@ class Module:
     def __init__(self, text):
         self.items, self.inside, self.modules, self.uses = {}, {}, set(), {}
         text = re.sub(r'(?m)//.*$', '', text)
+        text = re.sub(r'(?m)^pub use [^;]*;', lambda found: ' '.join(found[0].split()), text)   # a long one stands on several lines
         within, seen = None, 0
         for line in text.splitlines():
             if line and not line[0].isspace():
@@ -51,6 +53,22 @@ class Module:
         if found := REEXPORT.match(line):
             for name in re.findall(r'\w+', found[2]):
                 self.uses[name] = found[1] + '::' + name
+
+
+def clause_lines(lines):
+    """The numbers of the lines on which a clause of a contract stands: from its word to the bracket that ends it."""
+    found, depth = set(), 0
+    for number, line in enumerate(lines):
+        if depth or CLAUSE.match(line):
+            found.add(number)
+            depth += line.count('{') - line.count('}')
+    return found
+
+
+def body_at(lines):
+    """The line on which the body of the first function begins."""
+    clauses = clause_lines(lines)
+    return next(number for number, line in enumerate(lines) if number not in clauses and line.endswith('{'))
 
 
 class Sources:
@@ -133,17 +151,13 @@ class Sources:
         text = (self.crates / crate / 'src' / name).read_text()
         if owner:
             text = re.search(r'(?ms)^impl %s \{.*?^\}' % owner, text)[0]
-        head = []
-        for line in text[re.search(r'(?m)^ *pub (?:extern "C" )?fn %s[(<]' % words[-1], text).start():].splitlines():
-            head.append(line)
-            if line.endswith('{'):
-                break
-        return '\n'.join(head)
+        lines = text[re.search(r'(?m)^ *pub (?:extern "C" )?fn %s[(<]' % words[-1], text).start():].splitlines()
+        return '\n'.join(lines[:body_at(lines) + 1])
 
     def definitions_of(self, crate):
         """The definitions of this repository in which a crate's contracts are written, by name."""
         text = ''.join(file.read_text() for file in sorted((self.crates / crate / 'src').glob('**/*.rt')))
-        return {word for names in re.findall(r'(?m)^ghost use Rattle·\S+\.\{(.*)\};$', text) for word in re.findall(r'\w+', names)}
+        return {word for names in re.findall(r'(?m)^ghost use Rattle\.(?!std\.)[\w.]+\.\{([^}]*)\};$', text) for word in re.findall(r'\w+', names)}
 
     def exports(self, crate):
         """The functions that a crate exports to C, each with the calls of its body."""

@@ -44,7 +44,7 @@ def committed(folder):
 
 
 def copied(folder):
-    shutil.copytree(ROOT, folder, ignore=shutil.ignore_patterns('.git', 'target', '__pycache__', 'index.html', 'gate.log'), symlinks=True)
+    shutil.copytree(ROOT, folder, ignore=shutil.ignore_patterns('.git', 'target', 'out', '__pycache__', 'index.html', 'gate.log'), symlinks=True)
     git(folder, 'init', '-q')
     return committed(folder)
 
@@ -55,10 +55,10 @@ def green_log(folder, commit):
     lines = ['gate: commit %s, files as committed, kit %s, 2026-01-01' % (commit, KIT), '5 sabotages, each noticed',
              'the canary: 2 changed definitions, each refused', 'the definitions answer 7 cases as they should']
     for name in sorted(crates):
-        lines += ['logic=proved functions=3 sum=%s native=nat,char,string' % KIT.split()[-1], 'rt: %s proved (7 s)' % name]
-    lines += ['rt: must-fail %s/%s: refused, as it must be (first at src/lib.rt:1:1; 8 s)' % edit for edit in sorted(edits)]
-    lines += ["rt: %s ran as nobody, and wrote what its file 'stdout' has (1 s)" % name for name in sorted(programs)]
-    return '\n'.join(lines + ['rt: ok', '%d passed, 0 failed' % (len(crates) + len(edits))]) + '\n'
+        lines += ['logic=proved functions=3 sum=%s native=nat,char,string' % KIT.split()[-1], 'rt: %s proved' % name]
+    lines += ['rt: must-fail %s/%s.edit: refused, as it must be: src/lib.rt:1:1: error' % edit for edit in sorted(edits)]
+    lines += ["rt: %s ran, and wrote what its file stdout has" % name for name in sorted(programs)]
+    return '\n'.join(lines + ['rt: ok; handles allowed: none; every proof and must-fail edit was done in this run', '%d passed, 0 failed' % (len(crates) + len(edits))]) + '\n'
 
 
 # What is done to a green log, and words that the first line must then have.
@@ -71,10 +71,13 @@ WRONG_LOGS = [
     ('a count that is not the number of crates and edits', lambda text: re.sub(r'\d+ passed', '3 passed', text), 'The gate counted 3'),
     ('an edit that was not refused', lambda text: text.replace('refused, as it must be', 'NOT REFUSED: the crate is still proved with this edit', 1), 'NOT REFUSED'),
     ('an edit that the log lacks', lambda text: re.sub(r'rt: must-fail .*\n', '', text, 1), 'says nothing of 1 must-fail edit'),
-    ('an edit that is not here', lambda text: text.replace('rt: must-fail ', 'rt: must-fail wire/no_such: refused, as it must be (8 s)\nrt: must-fail ', 1), 'speaks of 1 must-fail edit'),
-    ('a crate that the log lacks', lambda text: text.replace('rt: wire proved (7 s)\n', ''), 'says nothing of 1 crate'),
-    ('a crate that was not proved', lambda text: text.replace('rt: wire proved (7 s)', 'rt: wire NOT PROVED: its dependency lists is not proved'), 'NOT PROVED: its dependency'),
-    ('a program whose run is not told', lambda text: re.sub(r'rt: replay ran .*\n', '', text), "says nothing of 1 program's run"),
+    ('an edit that is not here', lambda text: text.replace('rt: must-fail ', 'rt: must-fail wire/no_such.edit: refused, as it must be: src/lib.rt:1:1: error\nrt: must-fail ', 1), 'speaks of 1 must-fail edit'),
+    ('a crate that the log lacks', lambda text: text.replace('rt: wire proved\n', ''), 'says nothing of 1 crate'),
+    ('a crate that was kept', lambda text: text.replace('rt: wire proved\n', 'rt: wire is kept: an earlier run on this machine proved it\n'), 'kept what an earlier run'),
+    ('edits of an earlier run', lambda text: text.replace('every proof and must-fail edit was done in this run', 'done in this run: 9 of the 9 proofs'), 'kept what an earlier run'),
+    ('an edit that cannot be tried', lambda text: text.replace('refused, as it must be', 'BAD EDIT: its text is not there', 1), 'BAD EDIT'),
+    ('a crate that was not proved', lambda text: text.replace('rt: wire proved', 'rt: wire NOT PROVED: its library lists failed'), 'NOT PROVED: its library'),
+    ('a program whose run is not told', lambda text: re.sub(r'rt: replay ran\b.*\n', '', text), "says nothing of 1 program's run"),
     ('no sabotages', lambda text: text.replace('5 sabotages, each noticed\n', ''), 'does not tell of the sabotages'),
     ('the definitions not tried on the cases', lambda text: re.sub(r'the definitions answer .*\n', '', text), 'does not tell of the definitions on the cases'),
     ('another logic', lambda text: text.replace('sum=0123456789abcdef', 'sum=ffffffffffffffff', 1), 'another logic'),
@@ -124,7 +127,7 @@ class Trials:
         lost, links = self.driver.execute_script("""const links = [...document.querySelectorAll('a[href]')].map(a => a.getAttribute('href'));
             return [[...new Set(links)].filter(href => href[0] !== '#' || !document.getElementById(decodeURIComponent(href.slice(1)))), links.length]""")
         self.say('each of its %d links leads to a place in it' % links, links > 500 and not lost, lost[:5])
-        twice = self.driver.execute_script("const ids = [...document.querySelectorAll('[id]')].map(part => part.id); return ids.filter((id, at) => ids.index_of(id) !== at)")
+        twice = self.driver.execute_script("const ids = [...document.querySelectorAll('[id]')].map(part => part.id); return ids.filter((id, at) => ids.indexOf(id) !== at)")
         self.say('no place is there twice', not twice, twice[:5])
         empty = self.driver.execute_script("return [...document.querySelectorAll('main details')].filter(fold => !fold.querySelector('pre').textContent.trim()).length")
         self.say('no fold is empty', not empty, empty)
@@ -147,7 +150,7 @@ class Trials:
         for word in ('unpaired surrogate', 'Demand3.same'):
             said, seen, having, _ = self.typed(word)
             self.say('a search for %s finds: %s' % (word, said), 0 < seen == having < rows and said.split()[0] == str(seen), (said, seen, having, rows))
-        said, seen, _, opened = self.typed('highBytes')
+        said, seen, _, opened = self.typed('high_bytes')
         self.say('a search opens the folds that have the word', opened > 0, (said, opened))
         said, seen, _, opened = self.typed('no such word at all')
         self.say('a search for nonsense finds nothing, and says so', said == 'Nothing has this word.' and not seen, (said, seen))
@@ -172,9 +175,9 @@ class Trials:
         self.is_red('a name without a source text, a field of a record', text, 'No source text was found for the name demands/proofs/Demand3.took-bytes')
         page.write_text(before)
         source = self.folder / 'crates/format/specs/Header.antt'
-        source.write_text(source.read_text().replace('unfoldable pub readHeader', 'unfoldable pub readTheHeader'))
+        source.write_text(source.read_text().replace('unfoldable pub read_header', 'unfoldable pub read_the_header'))
         self.is_red('a source that is not the commit\'s', text, '1 file here differs from it: crates/format/specs/Header.antt')
-        self.is_red('a name of nothing', green_log(self.folder, committed(self.folder)), 'there is no definition Header.readHeader')
+        self.is_red('a name of nothing', green_log(self.folder, committed(self.folder)), 'there is no definition Header.read_header')
         (self.folder / 'docs/STOPS.md').unlink()
         self.is_red('a page that could not be made', text, 'was not made to its end')
 

@@ -1,4 +1,4 @@
-"""The log of a gate run (`bash .ci/run | tee LOG`), and whether it is the log of a whole green run on the files that are here.
+"""The log of a gate run (audit/make has the command), and whether it is the log of a whole green run, from nothing, on the files that are here.
 
 `read(text)` takes it apart. `faults(log, root)` are the reasons, in plain words, for which it is no verdict on these files: one is enough.
 """
@@ -25,7 +25,9 @@ class Log(NamedTuple):
     kit: str
     day: str
     earlier: dict       # of EARLIER: the line that was said
-    crates: dict        # crate to (seconds, functions)
+    crates: dict        # crate to its functions
+    kept: set           # crates that an earlier run had proved, and this one did not
+    whole: bool         # was every proof and every edit done in this run?
     sums: set           # the logic that the crates were proved with
     edits: dict         # (crate, edit) to what was said
     ran: dict           # program to what was said of its run
@@ -36,24 +38,28 @@ class Log(NamedTuple):
 def read(text):
     lines = text.splitlines()
     head = HEAD.fullmatch(lines[0]) if lines else None
-    crates, sums, edits, ran, trouble, functions = {}, set(), {}, {}, [], 0
+    crates, kept, whole, sums, edits, ran, trouble, functions = {}, set(), False, set(), {}, {}, [], 0
     for line in lines:
         if found := re.match(r'logic=proved functions=(\d+) .*?\bsum=(\w+)', line):
             functions = int(found[1])
             sums.add(found[2])
-        elif found := re.fullmatch(r'rt: (\w+) proved \((\d+) s\)', line):
-            crates[found[1]] = (int(found[2]), functions)
-        elif found := re.match(r'rt: must-fail (\w+)/(\w+): (.*)', line):
+        elif found := re.fullmatch(r'rt: (\w+) proved', line):
+            crates[found[1]] = functions
+        elif found := re.match(r'rt: (\w+) is kept: ', line):
+            kept.add(found[1])
+        elif line.startswith('rt: ok'):
+            whole = line.endswith('; every proof and must-fail edit was done in this run')
+        elif found := re.match(r'rt: must-fail (\w+)/(\w+)\.edit: (.*)', line):
             edits[found[1], found[2]] = found[3]
             if not found[3].startswith('refused, as it must be'):
                 trouble.append(line[4:])
         elif found := re.match(r"rt: (\w+) (ran\b.*)", line):
             ran[found[1]] = found[2]
-        elif re.match(r'rt: .*(NOT PROVED|FAILED|nothing proves it)', line):
+        elif re.match(r'rt: .*(NOT PROVED|FAILED|BAD EDIT|NOT TRIED|NOT REFUSED|was not run)', line):
             trouble.append(line[4:])
     earlier = {name: line for name, pattern in EARLIER.items() for line in lines if pattern.fullmatch(line)}
     return Log(head[1] if head and head[1] != 'unknown' else '', bool(head and not head[2]), head[3] if head else '', head[4] if head else '',
-               earlier, crates, sums, edits, ran, trouble, next((line for line in reversed(lines) if line.strip()), ''))
+               earlier, crates, kept - set(crates), whole, sums, edits, ran, trouble, next((line for line in reversed(lines) if line.strip()), ''))
 
 
 def git(root, *words):
@@ -68,7 +74,7 @@ def git(root, *words):
 def listed(root):
     """What the gate has to judge: the crates, the edits, the programs."""
     lines = (line.partition('#')[0].partition(':')[0].strip() for line in (root / 'crates.txt').read_text().splitlines())
-    crates = {line for line in lines if line}
+    crates = {line.split()[0] for line in lines if line}
     edits = {(path.parent.parent.name, path.stem) for path in root.glob('crates/*/must-fail/*.edit')}
     return crates, edits, {name for name in crates if (root / 'crates' / name / 'src/main.rt').is_file()}
 
@@ -116,7 +122,10 @@ def faults(log, root):
         if name not in log.earlier:
             yield 'The log does not tell of %s.' % name
     crates, edits, programs = listed(root)
-    yield from unlike('crate', crates, set(log.crates))
+    yield from unlike('crate', crates, set(log.crates) | log.kept)
+    if log.kept or verdict and not log.whole:
+        some = ' (%d crate%s: %s)' % (len(log.kept), '' if len(log.kept) == 1 else 's', ', '.join(sorted(log.kept)[:3]) + (' ..' if len(log.kept) > 3 else '')) if log.kept else ''
+        yield 'The gate kept what an earlier run had proved or tried%s. This log does not show it: rt ci --anew does.' % some
     yield from unlike('must-fail edit', edits, set(log.edits))
     yield from unlike('program\'s run', programs, set(log.ran))
     if verdict and not int(verdict[2]) and int(verdict[1]) != len(crates) + len(edits):

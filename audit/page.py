@@ -206,7 +206,7 @@ class Page:
         said = self.log.crates if self.log else {}
         ran = self.log.ran if self.log else {}
         rows = ''.join('<tr class="row"><td><code>%s</code></td><td class="%s">%s</td><td>%s</td></tr>' % (
-            name, 'right' if name in said else 'wrong', 'proved in %d s, %d functions' % said[name] if name in said else 'the log says nothing of it',
+            name, 'right' if name in said else 'wrong', 'proved, %d functions' % said[name] if name in said else 'the log says nothing of it',
             html.escape(ran.get(name, 'the log says nothing of its run')) if name in programs else '') for name in sorted(crates))
         earlier = ''.join('<li class="row">%s</li>' % html.escape(line) for line in (self.log.earlier.values() if self.log else ()))
         each = ''.join('<div class="row" id="%s">%s</div>' % (anchor('%s!%s' % edit), self.edit_fold(edit)) for edit in sorted(edits))

@@ -3,7 +3,7 @@
 
     definitions.py [--ops a,b,c] [--tags a,b,c] [--flip] [--changed] [--no-canary]
 
-The statements go into a repository of their own, in a temporary folder, beside copies of the definitions (without their proofs), and `rt check` judges
+The statements go into a repository of their own, in a temporary folder, beside copies of the definitions (without their proofs), and `rt all check` judges
 them. It fails where one statement is refused, and where there are not as many statements as cases. --flip states a wrong answer for every case, to
 see that each is refused. --changed tries definitions that are changed (CANARY) on the cases of the changes, and on one that no change touches; a run
 begins with it, the canary, and ends there unless it fails as it must.
@@ -28,7 +28,7 @@ IN_A_FILE = 400
 PARTS = 2
 # What the statements name, beside the definitions that are opened.
 NAMES = {
-    'Answer': 'Answer gives refuses Read took stops Part inside outside mapRead',
+    'Answer': 'Answer gives refuses Read took stops Part inside outside map_read',
     'Header': 'Header',
     'Prelogin': 'Prelogin',
     'Descriptor': 'FixedLen ByteLen UShortLen LongLen TypeId fixed_len byte_len u_short_len long_len daten xml udt ss_variant Collation Schema Column',
@@ -41,28 +41,25 @@ NAMES = {
     'Text': '',
     'Normal': '',
 }
-HEAD = '''use mathlib.Core.Path.{_≡_, refl}
-use mathlib.Core.List.{List, [], _∷_}
-use mathlib.Core.Bool.{true, false}
-use mathlib.Core.Option.{none, some}
-use Prim.Native.Nat.{ℕ}
-use lib.IntN.{pos, negsuc}
-use Rattle·%s·specs.specs.Line.{rep, run, runTwo, filler, named, Line, ok, no, line, writing, copying, reading, read_guid}
+HEAD = '''use mathlib.Core.Path.{◌≡◌, refl}
+use Rattle.std.specs.Prelude.{ℕ, List, [], ◌∷◌, true, false, pos, negsuc}
+use Rattle.std.proofs.Math.Option.{none, some}
+use Rattle.%s.specs.Line.{rep, run, run_two, filler, named, Line, ok, no, line, writing, copying, reading, read_guid}
 '''
 # Definitions changed in the canary's copy: the file, the line, what stands there instead, and the cases that must then be refused.
 CANARY = [
     ('Answer', 'number kind = 3', 'number kind = 4', ['public-2492']),
     ('Answer', 'number long = 5', 'number long = 7', ['public-13']),
-    ('Answer', 'roomAfterRead copied (stops e) out = out', 'roomAfterRead copied (stops e) out = drop 1 out', ['public-3971']),
-    ('Answer', 'roomAfterRead copied (took v n) out = copied v ++ drop (length (copied v)) out', 'roomAfterRead copied (took v n) out = out', ['public-6132']),
-    ('Header', 'packetStatuses = 0 ∷ 1 ∷ 3 ∷ 8 ∷ 16 ∷ []', 'packetStatuses = 0 ∷ 1 ∷ 2 ∷ 3 ∷ 8 ∷ 16 ∷ []', ['own-3000246']),
-    ('Descriptor', 'schemaFits (byte_len t) (some n) = false', 'schemaFits (byte_len t) (some n) = true', ['own-3000565']),
-    ('Descriptor', 'nameFits w (inside s) = both (eqb (length s % 2) 0) (ltb (length s / 2) (256 ^ w))',
-     'nameFits w (inside s) = both (eqb (length s % 2) 0) (ltb (length s / 2) (256 ^ w + 1))', ['own-3000619', 'own-3000621']),
-    ('Plp', 'openedAt total text at = record { at = at; sum = 0; total = total; text = text; ended = false }',
-     'openedAt total text at = record { at = at; sum = 0; total = total; text = text; ended = true }', ['public-20158']),
-    ('Value', 'untypedString = 4000', 'untypedString = 4001', ['own-3000686', 'own-3000688']),
-    ('Row', 'maxColumns = 1024', 'maxColumns = 1025', ['own-3000692', 'own-3000697', 'own-3000699']),
+    ('Answer', 'room_after_read copied (stops e) out = out', 'room_after_read copied (stops e) out = drop 1 out', ['public-3971']),
+    ('Answer', 'room_after_read copied (took v n) out = copied v ++ drop (length (copied v)) out', 'room_after_read copied (took v n) out = out', ['public-6132']),
+    ('Header', 'packet_statuses = 0 ∷ 1 ∷ 3 ∷ 8 ∷ 16 ∷ []', 'packet_statuses = 0 ∷ 1 ∷ 2 ∷ 3 ∷ 8 ∷ 16 ∷ []', ['own-3000246']),
+    ('Descriptor', 'schema_fits (byte_len t) (some n) = false', 'schema_fits (byte_len t) (some n) = true', ['own-3000565']),
+    ('Descriptor', 'name_fits w (inside s) = both (eqb (length s % 2) 0) (ltb (length s / 2) (256 ^ w))',
+     'name_fits w (inside s) = both (eqb (length s % 2) 0) (ltb (length s / 2) (256 ^ w + 1))', ['own-3000619', 'own-3000621']),
+    ('Plp', 'opened_at total text at = record { at = at; sum = 0; total = total; text = text; ended = false }',
+     'opened_at total text at = record { at = at; sum = 0; total = total; text = text; ended = true }', ['public-20158']),
+    ('Value', 'untyped_string = 4000', 'untyped_string = 4001', ['own-3000686', 'own-3000688']),
+    ('Row', 'max_columns = 1024', 'max_columns = 1025', ['own-3000692', 'own-3000697', 'own-3000699']),
 ]
 UNTOUCHED = 'public-1'
 
@@ -106,7 +103,7 @@ def lay_out(folder, labelled, parts, flip):
         for part in ('src', 'specs'):
             shutil.copytree(CRATES / crate / part, folder / 'crates' / crate / part)
     names = opened()
-    uses = ''.join('use Rattle·format.specs.%s.{%s}\n' % (m, ', '.join(NAMES[m].split() + names[m])) for m in NAMES)
+    uses = ''.join('use Rattle.format.specs.%s.{%s}\n' % (m, ', '.join(NAMES[m].split() + names[m])) for m in NAMES)
     unfolding = 'unfolding ' + ' '.join(name for m in NAMES for name in names[m])
     crates = ['lists:', 'format: lists']
     heavy = sorted(labelled, key=lambda item: weight(item[1]))      # so that each part has as much to do
@@ -115,7 +112,7 @@ def lay_out(folder, labelled, parts, flip):
         trial = folder / 'crates' / ('trial%d' % k)
         for part in ('src', 'specs', 'proofs'):
             (trial / part).mkdir(parents=True)
-        (trial / 'src/lib.rt').write_text('// No code.\n')
+        (trial / 'src/lib.rt').write_text('// No code.\n\n#![tactic(auto)]\n')
         (trial / 'specs/Lib.antt').write_text('pub mod Line\n')
         (trial / 'specs/Line.antt').write_text(LINE)
         mine, modules = heavy[k::parts], ''
@@ -137,9 +134,8 @@ def statements(folder):
 
 def judged(folder):
     """Whether all is proved, the labels refused, and what was said."""
-    done = subprocess.run(['rt', 'check'], cwd=folder, stdout=subprocess.PIPE, stderr=subprocess.STDOUT, text=True)
-    text = done.stdout + ''.join(path.read_text() for path in sorted(folder.glob('target/log/trial*.out')))
-    return done.returncode == 0, set(re.findall(r'error: `((?:%s)-\d+)`' % '|'.join(FILES), text)), text
+    done = subprocess.run(['rt', 'all', 'check', '--jobs', str(PARTS)], cwd=folder, stdout=subprocess.PIPE, stderr=subprocess.STDOUT, text=True)
+    return done.returncode == 0, set(re.findall(r'error: `((?:%s)-\d+)`' % '|'.join(FILES), done.stdout)), done.stdout
 
 
 # ------------------------------------------------------------------ the runs

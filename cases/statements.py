@@ -9,26 +9,23 @@ import re
 from cases import unhx
 
 FAMILIES = {
-    ('fixedLen', 'FixedLen'): {0x1F: 'null', 0x30: 'int1', 0x32: 'bit', 0x34: 'int2', 0x38: 'int4', 0x3A: 'datetime4', 0x3B: 'float4', 0x3C: 'money',
-                               0x3D: 'datetime', 0x3E: 'float8', 0x7A: 'money4', 0x7F: 'int8'},
-    ('byteLen', 'ByteLen'): {0x24: 'guid', 0x26: 'intn', 0x68: 'bitn', 0x6A: 'decimaln', 0x6C: 'numericn', 0x6D: 'floatn', 0x6E: 'moneyn',
-                             0x6F: 'datetimen', 0x29: 'timen', 0x2A: 'datetime2', 0x2B: 'datetimeOffsetn'},
-    ('uShortLen', 'UShortLen'): {0xA5: 'bigVarBin', 0xA7: 'bigVarChar', 0xAD: 'bigBinary', 0xAF: 'bigChar', 0xE7: 'nVarchar', 0xEF: 'nChar'},
-    ('longLen', 'LongLen'): {0x22: 'image', 0x23: 'text', 0x63: 'nText'},
+    ('fixed_len', 'FixedLen'): {0x1F: 'null', 0x30: 'int1', 0x32: 'bit', 0x34: 'int2', 0x38: 'int4', 0x3A: 'datetime4', 0x3B: 'float4', 0x3C: 'money',
+                                0x3D: 'datetime', 0x3E: 'float8', 0x7A: 'money4', 0x7F: 'int8'},
+    ('byte_len', 'ByteLen'): {0x24: 'guid', 0x26: 'intn', 0x68: 'bitn', 0x6A: 'decimaln', 0x6C: 'numericn', 0x6D: 'floatn', 0x6E: 'moneyn',
+                              0x6F: 'datetimen', 0x29: 'timen', 0x2A: 'datetime2', 0x2B: 'datetime_offsetn'},
+    ('u_short_len', 'UShortLen'): {0xA5: 'big_var_bin', 0xA7: 'big_var_char', 0xAD: 'big_binary', 0xAF: 'big_char', 0xE7: 'n_varchar', 0xEF: 'n_char'},
+    ('long_len', 'LongLen'): {0x22: 'image', 0x23: 'text', 0x63: 'n_text'},
 }
-OTHERS = {0x28: 'daten', 0xF1: 'xml', 0xF0: 'udt', 0x62: 'ssVariant'}
+OTHERS = {0x28: 'daten', 0xF1: 'xml', 0xF0: 'udt', 0x62: 'ss_variant'}
 # Ops that are the replay program's own and say nothing of the format.
 NOT_OF_THE_FORMAT = ('self_test',)
 # What the statements are made of, beside the definitions: a file of the trial crate.
 LINE = '''-- A line of the replay program, in the words of the definitions.
-use Prim.Native.Nat.{ℕ, zero, suc, _+_}
-use mathlib.Core.List.{List, [], _∷_, _++_}
-use mathlib.Core.Bool.{Bool}
-use mathlib.Core.Option.{Option, none, some}
-use Rattle·format.specs.Answer.{Answer, gives, refuses, Read, took, stops, number, fitted, wrote, room_after, fitted_read, room_after_read, map_read, part}
-use Rattle·format.specs.Number.{read_bytes}
-use Rattle·format.specs.Guid.{guid_order}
-use Rattle·format.specs.Descriptor.{Schema}
+use Rattle.std.specs.Prelude.{ℕ, zero, suc, List, [], ◌∷◌, ◌++◌}
+use Rattle.format.specs.Answer.{Answer, gives, refuses, Read, took, stops, number, fitted, wrote, room_after, fitted_read, room_after_read, map_read, part}
+use Rattle.format.specs.Number.{read_bytes}
+use Rattle.format.specs.Guid.{guid_order}
+use Rattle.format.specs.Descriptor.{Schema}
 
 -- n times the same elements in front of others.
 abbrev pub rep : {A : Type 0} → ℕ → List A → List A → List A
@@ -40,9 +37,9 @@ abbrev pub run : {A : Type 0} → ℕ → A → List A → List A
 run zero a rest = rest
 run (suc n) a rest = a ∷ run n a rest
 
-abbrev pub runTwo : {A : Type 0} → ℕ → A → A → List A → List A
-runTwo zero a b rest = rest
-runTwo (suc n) a b rest = a ∷ b ∷ runTwo n a b rest
+abbrev pub run_two : {A : Type 0} → ℕ → A → A → List A → List A
+run_two zero a b rest = rest
+run_two (suc n) a b rest = a ∷ b ∷ run_two n a b rest
 
 -- The room before a call.
 abbrev pub filler : ℕ → List ℕ
@@ -97,7 +94,7 @@ def repeated(terms, times, tail='[]'):
     if times == 1:
         return listed(terms, tail)
     if len(terms) < 3:
-        return '(%s %d %s %s)' % (('run', 'runTwo')[len(terms) - 1], times, ' '.join(terms), tail)
+        return '(%s %d %s %s)' % (('run', 'run_two')[len(terms) - 1], times, ' '.join(terms), tail)
     return '(rep %d %s %s)' % (times, listed(terms), tail)
 
 
@@ -229,32 +226,32 @@ class Statement:
         return 'writing (%s) %d' % (writer, self.case['room']), self.wanted(lambda ok: str(len(unhx(ok['out']))))
 
     def header_read(self):
-        return self.reading('readHeader', lambda ok: header(ok['header']))
+        return self.reading('read_header', lambda ok: header(ok['header']))
 
     def header_write(self):
-        return self.writing('writeHeader ' + header(self.case['header']))
+        return self.writing('write_header ' + header(self.case['header']))
 
     def prelogin_write(self):
         c = self.case
-        return self.writing('writePrelogin ' + record(
-            version=c['version'], subBuild=c['sub_build'], encryption=c['encryption'], threadId=c['thread_id'], mars=truth(c['mars']),
-            fedAuthRequired=truth(c['fedauth'])))
+        return self.writing('write_prelogin ' + record(
+            version=c['version'], sub_build=c['sub_build'], encryption=c['encryption'], thread_id=c['thread_id'], mars=truth(c['mars']),
+            fed_auth_required=truth(c['fedauth'])))
 
     def type_read(self):
-        return self.reading('readColumn', lambda ok: column(ok['desc'], self.found))
+        return self.reading('read_column', lambda ok: column(ok['desc'], self.found))
 
     def type_write(self):
-        return self.writing('writeColumn ' + self.column())
+        return self.writing('write_column ' + self.column())
 
     def value_read(self):
         c = self.column()
         return self.copying('(copied_out %s)' % c, '(read_value %s)' % c, lambda ok: value(ok['value']))
 
     def value_write(self):
-        return self.writing('writeValue %s %s' % (self.column(), given(self.case['value'], bytes_(self.raw))))
+        return self.writing('write_value %s %s' % (self.column(), given(self.case['value'], bytes_(self.raw))))
 
     def untyped_write(self):
-        return self.writing('writeUntyped ' + given(self.case['value'], bytes_(self.raw)))
+        return self.writing('write_untyped ' + given(self.case['value'], bytes_(self.raw)))
 
     def row_read(self):
         cs = self.columns()
@@ -262,7 +259,7 @@ class Statement:
 
     def row_write(self):
         vs = [given(v, bytes_(self.raw)) for v in self.case['values']]
-        return self.writing('writeRow %s %s' % (self.columns(), repeated(vs, self.case.get('nvalues', 1))))
+        return self.writing('write_row %s %s' % (self.columns(), repeated(vs, self.case.get('nvalues', 1))))
 
     def normal(self):
         return self.copying('(λ (b : List ℕ). b)', '(normal %s)' % self.columns(), lambda ok: bytes_(unhx(ok['out'])))
@@ -271,20 +268,20 @@ class Statement:
         return 'reading (open_walk %s %s %d)' % (truth(self.case['text']), bytes_(self.raw), self.at), self.took(lambda ok: option(ok['walk'] and walk(ok['walk'])))
 
     def walk(self):
-        walked = 'walkChunks %d %s %s' % (self.case['allowed'], bytes_(self.raw), walk(self.case['walk']))
+        walked = 'walk_chunks %d %s %s' % (self.case['allowed'], bytes_(self.raw), walk(self.case['walk']))
         return 'line (%s) []' % walked, self.wanted(lambda ok: record(walk=walk(ok['walk']), taken=ok['taken']))
 
     def text_in(self):
-        return self.writing('textIn ' + bytes_(self.raw))
+        return self.writing('text_in ' + bytes_(self.raw))
 
     def text_out(self):
-        return self.writing('textOut ' + bytes_(self.raw))
+        return self.writing('text_out ' + bytes_(self.raw))
 
     def guid(self):
-        return 'guidOrder ' + bytes_(self.raw), bytes_(unhx(self.want['ok']['out']))
+        return 'guid_order ' + bytes_(self.raw), bytes_(unhx(self.want['ok']['out']))
 
     def guid_read(self):
-        return self.reading('readGuid', lambda ok: bytes_(unhx(ok['out'])))
+        return self.reading('read_guid', lambda ok: bytes_(unhx(ok['out'])))
 
     def number(self):
         return self.reading('(read_low %d)' % self.case['width'], lambda ok: str(ok['number']))
@@ -292,7 +289,7 @@ class Statement:
     def capture(self):
         def captured(ok):
             return record(columns=listed(column(d, self.found) for d in ok['cols']), values=values(ok['values']))
-        return self.copying('(λ (c : Capture). copied_out_row (c .columns) (c .values))', 'readCapture', captured)
+        return self.copying('(λ (c : Capture). copied_out_row c.columns c.values)', 'read_capture', captured)
 
 
 def wrong(answer):

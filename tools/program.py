@@ -1,10 +1,8 @@
 """The repository's own programs, for ./show and ./ask: proved and built where need be, then run.
 
-A program is for x86-64. It runs with the kit's own loader and C library, and on another processor under the
-kit's emulator, as `rt` runs it.
+A program is for x86-64, and runs with the kit's own loader and C library.
 """
 import pathlib
-import platform
 import shutil
 import subprocess
 import sys
@@ -13,18 +11,21 @@ ROOT = pathlib.Path(__file__).resolve().parent.parent
 
 
 def newest(folder):
-    return max((path.stat().st_mtime for path in folder.rglob('*') if path.is_file()), default=0)
+    """When a file of the sources was last written; what `rt` makes of them, in a crate's out/, is none."""
+    return max((path.stat().st_mtime for path in folder.rglob('*') if path.is_file() and path.relative_to(folder).parts[1:2] != ('out',)), default=0)
 
 
 def built(name):
     """The program's file. Where it is missing or older than the sources, it is proved and built first."""
-    binary = ROOT / 'target' / 'bin' / name
+    crate = ROOT / 'crates' / name
+    binary = crate / 'out' / name
     if binary.is_file() and newest(ROOT / 'crates') < binary.stat().st_mtime:
         return binary
-    print('proving and building %s: some minutes the first time, a few seconds later on' % name, file=sys.stderr)
-    done = subprocess.run(['rt', 'check', name], cwd=ROOT, stdout=subprocess.PIPE, stderr=subprocess.STDOUT, text=True)
-    if done.returncode:
-        print(done.stdout[-2000:], file=sys.stderr)
+    print('proving and building %s: a while the first time, a few seconds later on' % name, file=sys.stderr)
+    # `rt run` says that it runs a program that is proved and built, here on no input.
+    done = subprocess.run(['rt', 'run'], cwd=crate, stdin=subprocess.DEVNULL, stdout=subprocess.DEVNULL, stderr=subprocess.PIPE, text=True)
+    if 'rt: running out/%s;' % name not in done.stderr:
+        print(done.stderr[-2000:], file=sys.stderr)
         sys.exit('%s was not proved or not built' % name)
     binary.touch()
     return binary
@@ -35,7 +36,5 @@ def command(name):
     rt = shutil.which('rt')
     if rt is None:
         sys.exit('the kit is missing: there is no command rt')
-    tools = pathlib.Path(rt).resolve().parent.parent / 'on' / platform.machine() / 'toolchain'
-    emulator = tools / 'bin' / 'qemu-x86_64'
-    words = [tools / 'lib' / 'ld-linux-x86-64.so.2', '--library-path', tools / 'lib', built(name)]
-    return [str(word) for word in ([emulator] if emulator.is_file() else []) + words]
+    libraries = pathlib.Path(rt).resolve().parent.parent / 'toolchain' / 'lib'
+    return [str(word) for word in (libraries / 'ld-linux-x86-64.so.2', '--library-path', libraries, built(name))]

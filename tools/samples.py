@@ -1,8 +1,8 @@
 #!/usr/bin/env python3
-"""Makes the captures of samples/, or checks that they are what this makes.
+"""Makes the captures of samples/ and their copies in crates/capture/data, where the gate's run of the program finds them, or checks both folders.
 
     tools/samples.py          writes them
-    tools/samples.py check    exit 1 where one differs
+    tools/samples.py check    exit 1 where one differs, or another file stands there
 
 A capture is a column count in two bytes, low first, the columns' descriptors, then a row. Written byte by byte from document 01, without this codec.
 """
@@ -11,7 +11,8 @@ import struct
 import sys
 import uuid
 
-FOLDER = pathlib.Path(__file__).resolve().parent.parent / 'crates' / 'capture' / 'data'
+ROOT = pathlib.Path(__file__).resolve().parent.parent
+FOLDERS = ('samples', 'crates/capture/data')
 COLLATION = bytes.fromhex('0904D00034')
 
 
@@ -97,10 +98,19 @@ SAMPLES = {
     'unknown-type.tds': b'\x02\x00' + intn(4) + b'\x99\x04' + b'\x04\x01\x00\x00\x00',
 }
 
+
+def faults():
+    for folder in FOLDERS:
+        there = {path.name: path.read_bytes() for path in (ROOT / folder).iterdir()}
+        for name in sorted(set(SAMPLES) | set(there)):
+            if there.get(name) != SAMPLES.get(name):
+                yield '%s/%s is not what tools/samples.py makes' % (folder, name)
+
+
 if __name__ == '__main__':
     if sys.argv[1:] == ['check']:
-        wrong = [name for name, made in SAMPLES.items() if (FOLDER / name).read_bytes() != made]
-        sys.exit('samples/%s is not what tools/samples.py makes' % wrong[0] if wrong else 0)
-    FOLDER.mkdir(parents=True, exist_ok=True)
-    for name, made in SAMPLES.items():
-        (FOLDER / name).write_bytes(made)
+        sys.exit('\n'.join(faults()) or 0)
+    for folder in FOLDERS:
+        (ROOT / folder).mkdir(parents=True, exist_ok=True)
+        for name, made in SAMPLES.items():
+            (ROOT / folder / name).write_bytes(made)
