@@ -1,4 +1,2 @@
-pub mod Lending
-pub mod Arrays
 pub mod Counted
 pub mod Decided
