@@ -48,7 +48,8 @@ read_is : (c : After-read_number-read) →
     number_told c.read_number-read.result ≡ number_at c.args.width c.args.high c.args.bytes.now c.args.at
 read_is c =
     let a = c.args in
-    number_is a.width a.high a.bytes.now a.at (found_at_after_read_number_read c).0 _ _ (found_at_after_read_number_read c).1 c.if-high-gt1.false c.read_number-read.ensures
+    number_is a.width a.high a.bytes.now a.at (found_at_after_read_number_read c).0 _ _ (found_at_after_read_number_read c).1 c.if-high-gt1.false
+        c.read_number-read.ensures
 
 pub returns-in-Number : goal.returns-in-Number
 returns-in-Number c =
