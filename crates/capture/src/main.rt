@@ -4,32 +4,48 @@
 
 ghost use Rattle.std.specs.Prelude.{◌≤◌, length};
 
+use std::io;
+use std::rt::{Env, Files};
+
 // The capture at the front of a buffer; nothing where there is none.
-fn show_front(n: usize, s: &[u8], joined: &mut [u8], room: &mut [u8])
+fn show_front(
+    rt: &impl Print,
+    n: usize,
+    s: &[u8],
+    joined: &mut [u8],
+    room: &mut [u8],
+) -> io::Result<()>
     requires { n ≤ length s.now }
 {
     if n == 0 {
-        return;
+        return Ok(());
     }
-    show_capture::show(&s[..n], joined, room);
+    show_capture::show(rt, &s[..n], joined, room)
 }
 
-// The inputs, one after another.
-fn run(s: &mut [u8], joined: &mut [u8], room: &mut [u8]) {
-    let count = capture_input::inputs();
+// The inputs, one after another. `faults` is where what is no capture's fault is said.
+fn run<R: Env + Files + Input + Print>(
+    rt: &R,
+    faults: &impl Print,
+    s: &mut [u8],
+    joined: &mut [u8],
+    room: &mut [u8],
+) -> io::Result<()> {
+    let count = capture_input::inputs(rt);
     let mut i: usize = 0;
     while i < count {
-        let n = capture_input::read_input(i, s);
-        show_front(n, s, joined, room);
+        let n = capture_input::read_input(rt, faults, i, s)?;
+        show_front(rt, n, s, joined, room)?;
         i += 1;
     }
+    Ok(())
 }
 
 // Room for long content and for the normal form, neither longer than the capture; a letter of two
 // bytes has up to three in UTF-8.
-fn main() {
+fn main(rt: HostRuntime) -> io::Result<()> {
     let mut s = [0u8; 262144];
     let mut joined = [0u8; 262144];
     let mut room = [0u8; 393216];
-    run(&mut s, &mut joined, &mut room);
+    run(&rt, &rt.stderr(), &mut s, &mut joined, &mut room)
 }

@@ -9,33 +9,35 @@ use morelquilt::{
     ByteLen, Column, Cursor, Found, Normal, RowRead, RowValue, Scalar, TypeId, UShortLen, Value,
     Wrote,
 };
+use std::io;
 
 // Prints the limit that a value holds.
-fn print(found: Found) {
+fn print(rt: &impl Print, found: Found) -> io::Result<()> {
     match found {
         Found::Scalar(v) => match v {
             Scalar::I32(limit) => {
-                words::signed(bits::signed::of_i32(limit) as u64, 2147483648);
-                words::text(b"\n");
+                words::signed(rt, bits::signed::of_i32(limit) as u64, 2147483648)?;
+                words::text(rt, b"\n")?;
+                Ok(())
             }
-            _ => {}
+            _ => Ok(()),
         },
-        _ => {}
+        _ => Ok(()),
     }
 }
 
 // Reads a row and takes its value.
-fn read_limit(c: Column, row: &[u8]) {
+fn read_limit(rt: &impl Print, c: Column, row: &[u8]) -> io::Result<()> {
     let read = morelquilt::read_held_row([c; 1024], 1, row, Cursor { at: 0 }, &mut []);
     match read {
         RowRead::Row(first, _) => {
             let taken = first.value(c, row);
             match taken {
-                RowValue::Value(limit, _) => print(limit),
-                RowValue::Refused(_) => {}
+                RowValue::Value(limit, _) => print(rt, limit),
+                RowValue::Refused(_) => Ok(()),
             }
         }
-        RowRead::Refused(_) => {}
+        RowRead::Refused(_) => Ok(()),
     }
 }
 
@@ -51,10 +53,10 @@ fn write_limit(c: Column, limit: i32, room: &mut [u8]) -> usize
 }
 
 // Writes a limit, and reads what was written.
-fn there_and_back(c: Column, limit: i32) {
+fn there_and_back(rt: &impl Print, c: Column, limit: i32) -> io::Result<()> {
     let mut room = [0u8; 16];
     let n = write_limit(c, limit, &mut room);
-    read_limit(c, &room[..n]);
+    read_limit(rt, c, &room[..n])
 }
 
 // The row's normal form at the front of the room: how many bytes it has, none where it is refused.
@@ -77,13 +79,14 @@ fn same(c: Column, one: &[u8], other: &[u8]) -> bool {
     check::same(&a[..n], &b[..m])
 }
 
-fn main() {
-    there_and_back(morelquilt::plain(TypeId::Byte(ByteLen::Intn), 4), -2);
+fn main(rt: HostRuntime) -> io::Result<()> {
+    there_and_back(&rt, morelquilt::plain(TypeId::Byte(ByteLen::Intn), 4), -2)?;
     // The bytes AA BB CC, long content of unknown length: in two chunks, and in one.
     let two = b"\xFE\xFF\xFF\xFF\xFF\xFF\xFF\xFF\x01\0\0\0\xAA\x02\0\0\0\xBB\xCC\0\0\0\0";
     let one = b"\xFE\xFF\xFF\xFF\xFF\xFF\xFF\xFF\x03\0\0\0\xAA\xBB\xCC\0\0\0\0";
     let long = morelquilt::plain(TypeId::UShort(UShortLen::BigVarBin), 65535);
     if same(long, two, one) {
-        words::text(b"the same\n");
+        words::text(&rt, b"the same\n")?;
     }
+    Ok(())
 }

@@ -102,7 +102,8 @@ byte_len_cut f s c k b h =
     let i : take k s ≡ t.0 ∷ take t.2 (drop t.1 s) = rw (t.5, u.0) in
     rw i (digits_cut f t.0 (drop t.1 s) c t.2 u.1 (bytes_drop t.1 s b) t.4)
 
-module _ (t : TypeId) (w : ℕ) (f : Form t w) (none-digits : has_digits t ≡ false) (n : ℕ) (s : List ℕ) (c : Column) (k : ℕ) (h : n < 256 ^ w) (b : Bytes s) where
+module _ (t : TypeId) (w : ℕ) (f : Form t w) (none-digits : has_digits t ≡ false) (n : ℕ) (s : List ℕ) (c : Column) (k : ℕ) (h : n < 256 ^ w) (b : Bytes s)
+    where
   no_collation_cut : has_collation t ≡ false → took (plain t n) 0 ≡ took c k → write_column c ≡ gives (type_byte t ∷ (low_bytes w n ++ take k s))
   no_collation_cut e q =
       let r = same_took (plain t n) c 0 k q in
@@ -111,7 +112,8 @@ module _ (t : TypeId) (w : ℕ) (f : Form t w) (none-digits : has_digits t ≡ f
       let z : type_byte t ∷ (low_bytes w n ++ (digits_bytes (has_digits t) 0 0 ++ [])) ≡ type_byte t ∷ (low_bytes w n ++ []) = rw none-digits in
       rw (r.0, r.1) (form-written t w f n 0 0 none h d l ∙ ap gives z)
 
-  collation_cut : has_collation t ≡ true → then_read (read_low 4) (read_sort t n) s ≡ took c k → write_column c ≡ gives (type_byte t ∷ (low_bytes w n ++ take k s))
+  collation_cut : has_collation t ≡ true → then_read (read_low 4) (read_sort t n) s ≡ took c k → write_column c
+      ≡ gives (type_byte t ∷ (low_bytes w n ++ take k s))
   collation_cut e q =
       let g = then_cut (read_low 4) (read_sort t n) s c k q in
       let info = g.0 in

@@ -158,6 +158,7 @@ pub count-above : (n : ℕ) (s : List ℕ) → 1024 < n → read_counted n s ≡
 count-above n s h = rw (lt-ltb 1024 n h)
 
 -- "Each column writes into the unused rest of the same output": two PLP columns take the room of both contents, one behind the other.
-pub both_contents : (c d : Column) (a b : List ℕ) → is_plp c ≡ true → is_plp d ≡ true → copied_out_row (c ∷ d ∷ []) (Value.binary a ∷ Value.binary b ∷ []) ≡ a ++ b
+pub both_contents : (c d : Column) (a b : List ℕ) → is_plp c ≡ true → is_plp d ≡ true → copied_out_row (c ∷ d ∷ []) (Value.binary a ∷ Value.binary b ∷ [])
+    ≡ a ++ b
 unfolding copied_out_row copied_out
 both_contents c d a b p q = rw (p, q, append-nil)

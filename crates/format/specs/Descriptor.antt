@@ -114,7 +114,8 @@ type_byte ss_variant = 0x62
 
 abbrev pub types : List TypeId
 types =
-    fixed_len FixedLen.null ∷ fixed_len FixedLen.int1 ∷ fixed_len FixedLen.bit ∷ fixed_len FixedLen.int2 ∷ fixed_len FixedLen.int4 ∷ fixed_len FixedLen.datetime4
+    fixed_len FixedLen.null ∷ fixed_len FixedLen.int1 ∷ fixed_len FixedLen.bit ∷ fixed_len FixedLen.int2 ∷ fixed_len FixedLen.int4 ∷ fixed_len
+        FixedLen.datetime4
     ∷ fixed_len FixedLen.float4 ∷ fixed_len FixedLen.money ∷ fixed_len FixedLen.datetime ∷ fixed_len FixedLen.float8
     ∷ fixed_len FixedLen.money4 ∷ fixed_len FixedLen.int8
     ∷ byte_len ByteLen.guid ∷ byte_len ByteLen.intn ∷ byte_len ByteLen.bitn ∷ byte_len ByteLen.decimaln ∷ byte_len ByteLen.numericn ∷ byte_len ByteLen.floatn

@@ -4,36 +4,37 @@
 
 use replay_number::{numbers, own, texts};
 use replay_say::fields;
+use std::io;
 
 // An op whose frame begins with the size of its room: it is lent that much.
-fn in_room(op: u8, frame: &[u8], room: &mut [u8]) {
+fn in_room(rt: &impl Print, op: u8, frame: &[u8], room: &mut [u8]) -> io::Result<()> {
     match op {
-        0x21 => replay_packet::header_write(frame, room),
-        0x22 => replay_packet::prelogin_write(frame, room),
-        0x29 => replay_type::type_write(frame, room),
-        0x30 => replay_read::value_read(frame, room),
-        0x31 => replay_value::value_write(frame, room),
-        0x32 => replay_value::untyped_write(frame, room),
-        0x48 => texts::text_in(frame, room),
-        0x49 => texts::text_out(frame, room),
-        0x7E => own::self_test(frame, room),
-        _ => replay_rows::in_room(op, frame, room),
+        0x21 => replay_packet::header_write(rt, frame, room),
+        0x22 => replay_packet::prelogin_write(rt, frame, room),
+        0x29 => replay_type::type_write(rt, frame, room),
+        0x30 => replay_read::value_read(rt, frame, room),
+        0x31 => replay_value::value_write(rt, frame, room),
+        0x32 => replay_value::untyped_write(rt, frame, room),
+        0x48 => texts::text_in(rt, frame, room),
+        0x49 => texts::text_out(rt, frame, room),
+        0x7E => own::self_test(rt, frame, room),
+        _ => replay_rows::in_room(rt, op, frame, room),
     }
 }
 
 // An op without a room; false where it is none of these.
-fn without_room(op: u8, frame: &[u8]) -> bool {
+fn without_room(rt: &impl Print, op: u8, frame: &[u8]) -> io::Result<bool> {
     match op {
-        0x20 => replay_packet::header_read(frame),
-        0x28 => replay_type::type_read(frame),
-        0x40 => replay_walk::walk_open(frame),
-        0x41 => replay_walk::walk_on(frame),
-        0x50 => numbers::guid(frame),
-        0x51 => numbers::number(frame),
-        0x52 => own::guid_read(frame),
-        _ => return false,
+        0x20 => replay_packet::header_read(rt, frame)?,
+        0x28 => replay_type::type_read(rt, frame)?,
+        0x40 => replay_walk::walk_open(rt, frame)?,
+        0x41 => replay_walk::walk_on(rt, frame)?,
+        0x50 => numbers::guid(rt, frame)?,
+        0x51 => numbers::number(rt, frame)?,
+        0x52 => own::guid_read(rt, frame)?,
+        _ => return Ok(false),
     }
-    true
+    Ok(true)
 }
 
 // Where a frame says how large its room is: behind the place, in the ops that read at one.
@@ -45,11 +46,11 @@ fn room_size_at(op: u8) -> usize {
 }
 
 // One frame's answer, by its op's number.
-pub fn answer(frame: &[u8], room: &mut [u8]) {
+pub fn answer(rt: &impl Print, frame: &[u8], room: &mut [u8]) -> io::Result<()> {
     let op = fields::byte(frame, 0);
-    if without_room(op, frame) {
-        return;
+    if without_room(rt, op, frame)? {
+        return Ok(());
     }
     let size = fields::size(frame, room_size_at(op), room);
-    in_room(op, frame, &mut room[..size]);
+    in_room(rt, op, frame, &mut room[..size])
 }

@@ -7,6 +7,7 @@ ghost use Rattle.std.specs.Prelude.{◌<◌, ◌≤◌};
 
 use column_type::{Column, TypeId};
 use replay_say::fields;
+use std::io;
 use value_kind::Value;
 use wire::Width;
 
@@ -71,12 +72,13 @@ pub fn values(frame: &[u8], at: usize) -> [Value; 1024] {
 }
 
 // The fourteen numbers of each column.
-pub fn show_columns(cols: [Column; 1024], count: usize) {
+pub fn show_columns(rt: &impl Print, cols: [Column; 1024], count: usize) -> io::Result<()> {
     let n = placed(count);
     let mut i: usize = 0;
     while i < n {
         let c = cols[i];
-        replay_type::show(c);
+        replay_type::show(rt, c)?;
         i += 1;
     }
+    Ok(())
 }

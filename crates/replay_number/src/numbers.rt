@@ -1,22 +1,21 @@
 // guid, number.
 use replay_say::{fields, say};
+use std::io;
 use wire::{Cursor, Guid, NumberRead, Width};
 
 // Sixteen bytes in text order behind the op's number, written in wire order.
-pub fn guid(frame: &[u8]) {
+pub fn guid(rt: &impl Print, frame: &[u8]) -> io::Result<()> {
     let NumberRead::Number(high, c) = (Cursor { at: 1 }).high(frame, Width::Eight) else {
-        say::bad();
-        return;
+        return say::bad(rt);
     };
     let NumberRead::Number(low, _) = c.high(frame, Width::Eight) else {
-        say::bad();
-        return;
+        return say::bad(rt);
     };
     let mut out = [0u8; 16];
     guid::write_guid(Guid { high, low }, &mut out);
-    say::ok();
-    say::bytes(&out);
-    say::end();
+    say::ok(rt)?;
+    say::bytes(rt, &out)?;
+    say::end(rt)
 }
 
 fn width(n: u8) -> Width {
@@ -28,19 +27,19 @@ fn width(n: u8) -> Width {
     }
 }
 
-pub fn number(frame: &[u8]) {
+pub fn number(rt: &impl Print, frame: &[u8]) -> io::Result<()> {
     let from = fields::place(frame, 1);
     let w = width(fields::byte(frame, 9));
     match from.low(fields::rest(frame, 14), w) {
         NumberRead::Number(n, c) => {
-            say::ok();
-            say::number(c.at as u64);
-            say::number(n);
-            say::end();
+            say::ok(rt)?;
+            say::number(rt, c.at as u64)?;
+            say::number(rt, n)?;
+            say::end(rt)
         }
         NumberRead::Refused(e) => {
-            say::no(e);
-            say::end();
+            say::no(rt, e)?;
+            say::end(rt)
         }
     }
 }

@@ -1,23 +1,24 @@
 // The ops that are the project's own: guid_read, self_test.
 use replay_say::{fields, say};
+use std::io;
 use wire::{GuidRead, Refusal, Width, Wrote};
 
 // A GUID at a place of the input, said in text order.
-pub fn guid_read(frame: &[u8]) {
+pub fn guid_read(rt: &impl Print, frame: &[u8]) -> io::Result<()> {
     let from = fields::place(frame, 1);
     match from.guid(fields::rest(frame, 13)) {
         GuidRead::Guid(g, c) => {
             let mut out = [0u8; 16];
             wire::inner::put_high(&mut out, 0, g.high, 8);
             wire::inner::put_high(&mut out, 8, g.low, 8);
-            say::ok();
-            say::number(c.at as u64);
-            say::bytes(&out);
-            say::end();
+            say::ok(rt)?;
+            say::number(rt, c.at as u64)?;
+            say::bytes(rt, &out)?;
+            say::end(rt)
         }
         GuidRead::Refused(e) => {
-            say::no(e);
-            say::end();
+            say::no(rt, e)?;
+            say::end(rt)
         }
     }
 }
@@ -47,10 +48,10 @@ fn store(room: &mut [u8], at: usize, b: u8) {
 }
 
 // Stores one byte in the full room, so that the words of a made-up answer show that it is counted.
-pub fn self_test(frame: &[u8], room: &mut [u8]) {
+pub fn self_test(rt: &impl Print, frame: &[u8], room: &mut [u8]) -> io::Result<()> {
     let at = fields::low(frame, 5, Width::Four) as usize;
     say::fill(room);
     store(room, at, fields::byte(frame, 9));
     let count = fields::low(frame, 11, Width::Four) as usize;
-    say::wrote(made_up(fields::byte(frame, 10), count), room);
+    say::wrote(rt, made_up(fields::byte(frame, 10), count), room)
 }

@@ -5,43 +5,42 @@
 use header::{Header, HeaderRead, StatusRead, TypeRead};
 use prelogin::{Encryption, Prelogin};
 use replay_say::{fields, say};
+use std::io;
 use wire::Width;
 
-pub fn header_read(frame: &[u8]) {
+pub fn header_read(rt: &impl Print, frame: &[u8]) -> io::Result<()> {
     let from = fields::place(frame, 1);
     match header::read_header(fields::rest(frame, 13), from) {
         HeaderRead::Header(h, c) => {
-            say::ok();
-            say::number(c.at as u64);
-            shown(h);
-            say::end();
+            say::ok(rt)?;
+            say::number(rt, c.at as u64)?;
+            shown(rt, h)?;
+            say::end(rt)
         }
         HeaderRead::Refused(e) => {
-            say::no(e);
-            say::end();
+            say::no(rt, e)?;
+            say::end(rt)
         }
     }
 }
 
-fn shown(h: Header) {
+fn shown(rt: &impl Print, h: Header) -> io::Result<()> {
     let ty = h.ty;
     let status = h.status;
-    say::number(header::type_byte(ty) as u64);
-    say::number(header::status_byte(status) as u64);
-    say::number(h.length as u64);
-    say::number(h.spid as u64);
-    say::number(h.id as u64);
-    say::number(h.window as u64);
+    say::number(rt, header::type_byte(ty) as u64)?;
+    say::number(rt, header::status_byte(status) as u64)?;
+    say::number(rt, h.length as u64)?;
+    say::number(rt, h.spid as u64)?;
+    say::number(rt, h.id as u64)?;
+    return say::number(rt, h.window as u64)
 }
 
-pub fn header_write(frame: &[u8], room: &mut [u8]) {
+pub fn header_write(rt: &impl Print, frame: &[u8], room: &mut [u8]) -> io::Result<()> {
     let TypeRead::Type(ty) = header::type_of(fields::byte(frame, 5)) else {
-        say::bad();
-        return;
+        return say::bad(rt);
     };
     let StatusRead::Status(status) = header::status_of(fields::byte(frame, 6)) else {
-        say::bad();
-        return;
+        return say::bad(rt);
     };
     let h = Header {
         ty,
@@ -53,7 +52,7 @@ pub fn header_write(frame: &[u8], room: &mut [u8]) {
     };
     say::fill(room);
     let r = header::write_header(h, room);
-    say::wrote(r, room);
+    say::wrote(rt, r, room)
 }
 
 fn encryption(n: u8) -> Encryption {
@@ -65,7 +64,7 @@ fn encryption(n: u8) -> Encryption {
     }
 }
 
-pub fn prelogin_write(frame: &[u8], room: &mut [u8]) {
+pub fn prelogin_write(rt: &impl Print, frame: &[u8], room: &mut [u8]) -> io::Result<()> {
     let p = Prelogin {
         version: (fields::low(frame, 5, Width::Four) % 4294967296) as u32,
         sub_build: (fields::low(frame, 9, Width::Two) % 65536) as u16,
@@ -76,5 +75,5 @@ pub fn prelogin_write(frame: &[u8], room: &mut [u8]) {
     };
     say::fill(room);
     let r = prelogin::write_prelogin(p, room);
-    say::wrote(r, room);
+    say::wrote(rt, r, room)
 }

@@ -5,10 +5,11 @@
 use cursor::{Cursor, ValueRead};
 use replay_found::{copied, show};
 use replay_say::{fields, say};
+use std::io;
 use wire::Wrote;
 
 // The value of a column at a place of the input.
-pub fn value_read(frame: &[u8], room: &mut [u8]) {
+pub fn value_read(rt: &impl Print, frame: &[u8], room: &mut [u8]) -> io::Result<()> {
     let c = replay_type::column(frame, 13);
     let from = fields::place(frame, 1);
     let cursor = Cursor { at: from.at };
@@ -16,12 +17,12 @@ pub fn value_read(frame: &[u8], room: &mut [u8]) {
     let s = fields::rest(frame, 83);
     match cursor.value(c, s, room) {
         ValueRead::Value(f, next) => {
-            say::ok();
-            say::number(next.at as u64);
-            show(f, s, room);
-            say::front(room, copied(f));
-            say::end();
+            say::ok(rt)?;
+            say::number(rt, next.at as u64)?;
+            show(rt, f, s, room)?;
+            say::front(rt, room, copied(f))?;
+            say::end(rt)
         }
-        ValueRead::Refused(e) => say::wrote(Wrote::Refused(e), room),
+        ValueRead::Refused(e) => say::wrote(rt, Wrote::Refused(e), room),
     }
 }

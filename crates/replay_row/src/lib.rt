@@ -5,9 +5,10 @@
 use cursor::Cursor;
 use normal_step::Normal;
 use replay_say::{fields, say};
+use std::io;
 use wire::Wrote;
 
-pub fn row_write(frame: &[u8], room: &mut [u8]) {
+pub fn row_write(rt: &impl Print, frame: &[u8], room: &mut [u8]) -> io::Result<()> {
     let second = replay_list::behind_columns(frame, 5);
     let third = replay_list::behind_values(frame, second);
     let cols = replay_list::columns(frame, 5);
@@ -17,10 +18,10 @@ pub fn row_write(frame: &[u8], room: &mut [u8]) {
     let buffer = fields::rest(frame, fields::after(third, 4));
     say::fill(room);
     let r = held::write_held_row(cols, count, values, given, buffer, room);
-    say::wrote(r, room);
+    say::wrote(rt, r, room)
 }
 
-pub fn normal(frame: &[u8], room: &mut [u8]) {
+pub fn normal(rt: &impl Print, frame: &[u8], room: &mut [u8]) -> io::Result<()> {
     let cols = replay_list::columns(frame, 13);
     let count = replay_list::count(frame, 13);
     let behind = replay_list::behind_columns(frame, 13);
@@ -30,11 +31,11 @@ pub fn normal(frame: &[u8], room: &mut [u8]) {
     say::fill(room);
     match held_normal::normal_held_row(cols, count, s, from, room) {
         Normal::Bytes(n, next) => {
-            say::ok();
-            say::number(next.at as u64);
-            say::front(room, n);
-            say::end();
+            say::ok(rt)?;
+            say::number(rt, next.at as u64)?;
+            say::front(rt, room, n)?;
+            say::end(rt)
         }
-        Normal::Refused(e) => say::wrote(Wrote::Refused(e), room),
+        Normal::Refused(e) => say::wrote(rt, Wrote::Refused(e), room),
     }
 }

@@ -2,52 +2,59 @@
 ghost use Rattle.std.specs.Prelude.{◌≡◌, length};
 ghost use Rattle.replay_say.specs.Room.{filled, count_of, changed_in};
 
+use std::io;
 use wire::{Refusal, Wrote};
 
 const FILLER: u8 = 0xA5;
 
-pub fn end() {
-    words::text(b"\n");
+pub fn end(rt: &impl Print) -> io::Result<()> {
+    words::text(rt, b"\n")?;
+    Ok(())
 }
 
-pub fn bad() {
-    words::text(b"bad\n");
+pub fn bad(rt: &impl Print) -> io::Result<()> {
+    words::text(rt, b"bad\n")?;
+    Ok(())
 }
 
-pub fn ok() {
-    words::text(b"ok");
+pub fn ok(rt: &impl Print) -> io::Result<()> {
+    words::text(rt, b"ok")?;
+    Ok(())
 }
 
 // A word as it stands, with the space before it.
-pub fn word(text: &[u8]) {
-    words::text(text);
+pub fn word(rt: &impl Print, text: &[u8]) -> io::Result<()> {
+    words::text(rt, text)?;
+    Ok(())
 }
 
 // A word that is a number.
-pub fn number(n: u64) {
-    words::text(b" ");
-    words::decimal(n);
+pub fn number(rt: &impl Print, n: u64) -> io::Result<()> {
+    words::text(rt, b" ")?;
+    words::decimal(rt, n)?;
+    Ok(())
 }
 
 // A word that is a whole number, by its bits in two's complement.
-pub fn signed(n: u64, half: u64) {
-    words::text(b" ");
-    words::signed(n, half);
+pub fn signed(rt: &impl Print, n: u64, half: u64) -> io::Result<()> {
+    words::text(rt, b" ")?;
+    words::signed(rt, n, half)?;
+    Ok(())
 }
 
-pub fn no(e: Refusal) {
-    words::text(b"no");
-    number(words::refusal(e));
+pub fn no(rt: &impl Print, e: Refusal) -> io::Result<()> {
+    words::text(rt, b"no")?;
+    number(rt, words::refusal(e))
 }
 
 // A word of bytes, `-` for none.
-pub fn bytes(s: &[u8]) {
-    words::text(b" ");
+pub fn bytes(rt: &impl Print, s: &[u8]) -> io::Result<()> {
+    words::text(rt, b" ")?;
     if s.len() == 0 {
-        words::text(b"-");
-        return;
+        words::text(rt, b"-")?;
+        return Ok(());
     }
-    words::hex(s);
+    words::hex(rt, s)
 }
 
 // The room before a call.
@@ -84,33 +91,33 @@ fn changed(room: &[u8]) -> u64
     n
 }
 
-fn kept(room: &[u8]) {
-    words::text(b" changed");
-    number(changed(room));
+fn kept(rt: &impl Print, room: &[u8]) -> io::Result<()> {
+    words::text(rt, b" changed")?;
+    number(rt, changed(room))
 }
 
 // W bytes at the front of the room, and how many bytes behind them are changed.
-pub fn front(room: &[u8], w: usize) {
-    number(w as u64);
+pub fn front(rt: &impl Print, room: &[u8], w: usize) -> io::Result<()> {
+    number(rt, w as u64)?;
     if room.len() < w {
-        return;
+        return Ok(());
     }
-    bytes(&room[..w]);
-    kept(&room[w..]);
+    bytes(rt, &room[..w])?;
+    kept(rt, &room[w..])
 }
 
 // What a writer answered, and the room that it was lent.
-pub fn wrote(r: Wrote, room: &[u8]) {
+pub fn wrote(rt: &impl Print, r: Wrote, room: &[u8]) -> io::Result<()> {
     match r {
         Wrote::Bytes(w) => {
-            ok();
-            front(room, w);
-            end();
+            ok(rt)?;
+            front(rt, room, w)?;
+            end(rt)
         }
         Wrote::Refused(e) => {
-            no(e);
-            kept(room);
-            end();
+            no(rt, e)?;
+            kept(rt, room)?;
+            end(rt)
         }
     }
 }

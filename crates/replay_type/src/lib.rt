@@ -4,6 +4,7 @@
 
 use column_type::{Collation, Column, ColumnRead, Name, Schema, TypeId, TypeRead};
 use replay_say::{fields, say};
+use std::io;
 use wire::Width;
 
 fn name(frame: &[u8], at: usize) -> Name {
@@ -56,75 +57,75 @@ pub fn column(frame: &[u8], at: usize) -> Column {
     }
 }
 
-fn show_name(n: Name) {
-    say::number(n.start as u64);
-    say::number(n.units as u64);
+fn show_name(rt: &impl Print, n: Name) -> io::Result<()> {
+    say::number(rt, n.start as u64)?;
+    say::number(rt, n.units as u64)
 }
 
-fn show_schema(s: Schema) {
+fn show_schema(rt: &impl Print, s: Schema) -> io::Result<()> {
     match s {
         Schema::Names(a, b, c) => {
-            say::number(1);
-            show_name(a);
-            show_name(b);
-            show_name(c);
+            say::number(rt, 1)?;
+            show_name(rt, a)?;
+            show_name(rt, b)?;
+            show_name(rt, c)
         }
         Schema::None => {
             let none = Name { start: 0, units: 0 };
-            say::number(0);
-            show_name(none);
-            show_name(none);
-            show_name(none);
+            say::number(rt, 0)?;
+            show_name(rt, none)?;
+            show_name(rt, none)?;
+            show_name(rt, none)
         }
     }
 }
 
-fn show_collation(c: Collation) {
+fn show_collation(rt: &impl Print, c: Collation) -> io::Result<()> {
     match c {
         Collation::Of(info, sort) => {
-            say::number(1);
-            say::number(info as u64);
-            say::number(sort as u64);
+            say::number(rt, 1)?;
+            say::number(rt, info as u64)?;
+            say::number(rt, sort as u64)
         }
         Collation::None => {
-            say::number(0);
-            say::number(0);
-            say::number(0);
+            say::number(rt, 0)?;
+            say::number(rt, 0)?;
+            say::number(rt, 0)
         }
     }
 }
 
 // The fourteen numbers of a column.
-pub fn show(c: Column) {
+pub fn show(rt: &impl Print, c: Column) -> io::Result<()> {
     let ty = c.ty;
     let collation = c.collation;
     let schema = c.schema;
-    say::number(column_byte::type_byte(ty) as u64);
-    say::number(c.length);
-    say::number(c.precision as u64);
-    say::number(c.scale as u64);
-    show_collation(collation);
-    show_schema(schema);
+    say::number(rt, column_byte::type_byte(ty) as u64)?;
+    say::number(rt, c.length)?;
+    say::number(rt, c.precision as u64)?;
+    say::number(rt, c.scale as u64)?;
+    show_collation(rt, collation)?;
+    show_schema(rt, schema)
 }
 
-pub fn type_read(frame: &[u8]) {
+pub fn type_read(rt: &impl Print, frame: &[u8]) -> io::Result<()> {
     let from = fields::place(frame, 1);
     match column_read::read_column(fields::rest(frame, 13), from) {
         ColumnRead::Column(c, next) => {
-            say::ok();
-            say::number(next.at as u64);
-            show(c);
-            say::end();
+            say::ok(rt)?;
+            say::number(rt, next.at as u64)?;
+            show(rt, c)?;
+            say::end(rt)
         }
         ColumnRead::Refused(e) => {
-            say::no(e);
-            say::end();
+            say::no(rt, e)?;
+            say::end(rt)
         }
     }
 }
 
-pub fn type_write(frame: &[u8], room: &mut [u8]) {
+pub fn type_write(rt: &impl Print, frame: &[u8], room: &mut [u8]) -> io::Result<()> {
     say::fill(room);
     let r = column_write::write_column(column(frame, 5), fields::rest(frame, 75), room);
-    say::wrote(r, room);
+    say::wrote(rt, r, room)
 }

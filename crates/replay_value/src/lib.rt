@@ -5,6 +5,7 @@
 use bits::float;
 use bits::float::{Float32, Float64};
 use replay_say::{fields, say};
+use std::io;
 use value_kind::{Scalar, Span, Value};
 use wire::{Cursor, Guid, NumberRead, Width};
 
@@ -69,17 +70,17 @@ pub fn value(frame: &[u8], at: usize) -> Value {
     }
 }
 
-pub fn value_write(frame: &[u8], room: &mut [u8]) {
+pub fn value_write(rt: &impl Print, frame: &[u8], room: &mut [u8]) -> io::Result<()> {
     let c = replay_type::column(frame, 5);
     let v = value(frame, 71);
     say::fill(room);
     let r = value_write::write_value(c, v, fields::rest(frame, 92), room);
-    say::wrote(r, room);
+    say::wrote(rt, r, room)
 }
 
-pub fn untyped_write(frame: &[u8], room: &mut [u8]) {
+pub fn untyped_write(rt: &impl Print, frame: &[u8], room: &mut [u8]) -> io::Result<()> {
     let v = value(frame, 5);
     say::fill(room);
     let r = untyped_write::write_untyped(v, fields::rest(frame, 26), room);
-    say::wrote(r, room);
+    say::wrote(rt, r, room)
 }

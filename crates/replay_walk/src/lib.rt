@@ -4,6 +4,7 @@
 
 use plp::{Total, Walk, WalkOpened, Walked};
 use replay_say::{fields, say};
+use std::io;
 use wire::Width;
 
 // The walk whose 27 bytes stand at a place of the frame.
@@ -24,77 +25,76 @@ fn walk(frame: &[u8], at: usize) -> Walk {
 }
 
 // A truth value, as 0 or 1.
-fn show_truth(b: bool) {
+fn show_truth(rt: &impl Print, b: bool) -> io::Result<()> {
     if b {
-        say::number(1);
-        return;
+        return say::number(rt, 1);
     }
-    say::number(0);
+    say::number(rt, 0)
 }
 
 // Whether the total is known, and the total, 0 where it is not.
-fn show_total(total: Total) {
+fn show_total(rt: &impl Print, total: Total) -> io::Result<()> {
     match total {
         Total::Known(n) => {
-            say::number(1);
-            say::number(n);
+            say::number(rt, 1)?;
+            say::number(rt, n)
         }
         Total::Unknown => {
-            say::number(0);
-            say::number(0);
+            say::number(rt, 0)?;
+            say::number(rt, 0)
         }
     }
 }
 
 // The six numbers of a walk.
-fn show(w: Walk) {
+fn show(rt: &impl Print, w: Walk) -> io::Result<()> {
     let total = w.total;
-    say::number(w.at as u64);
-    say::number(w.sum);
-    show_total(total);
-    show_truth(w.text);
-    show_truth(w.ended);
+    say::number(rt, w.at as u64)?;
+    say::number(rt, w.sum)?;
+    show_total(rt, total)?;
+    show_truth(rt, w.text)?;
+    show_truth(rt, w.ended)
 }
 
 // The eight bytes at a place of the input.
-pub fn walk_open(frame: &[u8]) {
+pub fn walk_open(rt: &impl Print, frame: &[u8]) -> io::Result<()> {
     let from = fields::place(frame, 1);
     let text = fields::byte(frame, 9) != 0;
     match plp::open_walk(fields::rest(frame, 14), from, text) {
         WalkOpened::Walk(w) => {
-            say::ok();
-            say::number(w.at as u64);
-            say::word(b" walk");
-            show(w);
-            say::end();
+            say::ok(rt)?;
+            say::number(rt, w.at as u64)?;
+            say::word(rt, b" walk")?;
+            show(rt, w)?;
+            say::end(rt)
         }
         WalkOpened::Null(next) => {
-            say::ok();
-            say::number(next.at as u64);
-            say::word(b" null");
-            say::end();
+            say::ok(rt)?;
+            say::number(rt, next.at as u64)?;
+            say::word(rt, b" null")?;
+            say::end(rt)
         }
         WalkOpened::Refused(e) => {
-            say::no(e);
-            say::end();
+            say::no(rt, e)?;
+            say::end(rt)
         }
     }
 }
 
 // As many heads as the frame allows.
-pub fn walk_on(frame: &[u8]) {
+pub fn walk_on(rt: &impl Print, frame: &[u8]) -> io::Result<()> {
     let w = walk(frame, 1);
     let allowed = fields::low(frame, 28, Width::Eight);
     match plp::walk_chunks(fields::rest(frame, 40), w, allowed) {
         Walked::Walked(x, taken) => {
-            say::ok();
-            say::number(taken);
-            show(x);
-            say::end();
+            say::ok(rt)?;
+            say::number(rt, taken)?;
+            show(rt, x)?;
+            say::end(rt)
         }
         Walked::Refused(e) => {
-            say::no(e);
-            say::end();
+            say::no(rt, e)?;
+            say::end(rt)
         }
     }
 }

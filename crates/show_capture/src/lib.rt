@@ -9,46 +9,49 @@ use cursor::Cursor;
 use normal_step::Normal;
 use read_step::RowRead;
 use show_line::refused;
+use std::io;
 use wire::{NumberRead, Width};
 
 // The normal form of the row: its length and its bytes.
-fn show_normal(cols: [Column; 1024], count: usize, s: &[u8], cursor: Cursor, room: &mut [u8]) {
+fn show_normal(
+    rt: &impl Print,
+    cols: [Column; 1024],
+    count: usize,
+    s: &[u8],
+    cursor: Cursor,
+    room: &mut [u8],
+) -> io::Result<()> {
     let made = held_normal::normal_held_row(cols, count, s, cursor, room);
     match made {
-        Normal::Bytes(n, _) => {
-            show_line::say_normal(&room[..n]);
-        }
-        Normal::Refused(e) => {
-            refused::say_refusal(e);
-        }
+        Normal::Bytes(n, _) => { show_line::say_normal(rt, &room[..n]) }
+        Normal::Refused(e) => { refused::say_refusal(rt, e) }
     }
 }
 
 // The row behind the columns.
 fn show_row(
+    rt: &impl Print,
     cols: [Column; 1024],
     count: usize,
     s: &[u8],
     cursor: Cursor,
     joined: &mut [u8],
     room: &mut [u8],
-) {
+) -> io::Result<()> {
     let read = held_read::read_held_row(cols, count, s, cursor, joined);
     match read {
         RowRead::Row(first, next) => {
-            show_line::say_head();
-            show_row::show_values(cols, count, s, first, joined, room);
-            show_line::say_end(next.at, s.len());
-            show_normal(cols, count, s, cursor, room);
+            show_line::say_head(rt)?;
+            show_row::show_values(rt, cols, count, s, first, joined, room)?;
+            show_line::say_end(rt, next.at, s.len())?;
+            show_normal(rt, cols, count, s, cursor, room)
         }
-        RowRead::Refused(e) => {
-            show_row::show_stop(e, cols, count, s, cursor);
-        }
+        RowRead::Refused(e) => { show_row::show_stop(rt, e, cols, count, s, cursor) }
     }
 }
 
 // A capture. `joined` is room for long content, `room` for text and for the normal form.
-pub fn show(s: &[u8], joined: &mut [u8], room: &mut [u8]) {
+pub fn show(rt: &impl Print, s: &[u8], joined: &mut [u8], room: &mut [u8]) -> io::Result<()> {
     let counted = (wire::Cursor { at: 0 }).low(s, Width::Two);
     match counted {
         NumberRead::Number(n, next) => {
@@ -57,10 +60,18 @@ pub fn show(s: &[u8], joined: &mut [u8], room: &mut [u8]) {
             let list = columns.list;
             let end = columns.end;
             match end {
-                ColumnsEnd::End(at) => show_row(list, count, s, Cursor { at: at.at }, joined, room),
-                ColumnsEnd::Refused(e, i, at) => refused::say_descriptor(e, i, at.at, count),
+                ColumnsEnd::End(at) => show_row(
+                    rt,
+                    list,
+                    count,
+                    s,
+                    Cursor { at: at.at },
+                    joined,
+                    room,
+                ),
+                ColumnsEnd::Refused(e, i, at) => refused::say_descriptor(rt, e, i, at.at, count),
             }
         }
-        NumberRead::Refused(e) => refused::say_count(e),
+        NumberRead::Refused(e) => refused::say_count(rt, e),
     }
 }

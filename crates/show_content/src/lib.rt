@@ -3,6 +3,7 @@
 
 #![tactic(auto)]
 
+use std::io;
 use wire::{Refusal, Wrote};
 
 // How many bytes of content are shown.
@@ -11,21 +12,21 @@ const MOST_BYTES: usize = 24;
 const MOST_TEXT: usize = 60;
 
 // Content that was cut: how long it is.
-fn say_length(count: usize) {
-    words::text(b".. (");
-    words::decimal(count as u64);
-    words::text(b" bytes)");
+fn say_length(rt: &impl Print, count: usize) -> io::Result<()> {
+    words::text(rt, b".. (")?;
+    words::decimal(rt, count as u64)?;
+    words::text(rt, b" bytes)")?;
+    Ok(())
 }
 
 // Bytes, two digits each.
-pub fn say_bytes(s: &[u8]) {
-    words::text(b"0x");
+pub fn say_bytes(rt: &impl Print, s: &[u8]) -> io::Result<()> {
+    words::text(rt, b"0x")?;
     if MOST_BYTES < s.len() {
-        words::hex(&s[..MOST_BYTES]);
-        say_length(s.len());
-        return;
+        words::hex(rt, &s[..MOST_BYTES])?;
+        return say_length(rt, s.len());
     }
-    words::hex(s);
+    words::hex(rt, s)
 }
 
 // Does a letter begin here? All others are the later bytes of one.
@@ -52,64 +53,61 @@ fn moves(before: u8, b: u8) -> bool {
 }
 
 // One byte of text. One that would move the cursor is shown by its digits.
-fn say_letter(before: u8, b: u8) {
+fn say_letter(rt: &impl Print, before: u8, b: u8) -> io::Result<()> {
     let one = [b];
     if moves(before, b) {
-        words::text(b"\\x");
-        words::hex(&one);
-        return;
+        words::text(rt, b"\\x")?;
+        return words::hex(rt, &one);
     }
-    words::text(&one);
+    words::text(rt, &one)?;
+    Ok(())
 }
 
 // Text between quotes, as far as it is shown; whether that was all.
-fn say_letters(s: &[u8]) -> bool {
+fn say_letters(rt: &impl Print, s: &[u8]) -> io::Result<bool> {
     let mut before: u8 = 0;
     let mut i: usize = 0;
     while i < s.len() {
         let b = s[i];
         if MOST_TEXT <= i {
             if begins(b) {
-                return false;
+                return Ok(false);
             }
         }
-        say_letter(before, b);
+        say_letter(rt, before, b)?;
         before = b;
         i += 1;
     }
-    true
+    Ok(true)
 }
 
 // A string that was read, `count` bytes of UTF-16LE, by its UTF-8.
-fn say_text(s: &[u8], count: usize) {
-    words::text(b"\"");
-    let whole = say_letters(s);
-    words::text(b"\"");
+fn say_text(rt: &impl Print, s: &[u8], count: usize) -> io::Result<()> {
+    words::text(rt, b"\"")?;
+    let whole = say_letters(rt, s)?;
+    words::text(rt, b"\"")?;
     if !whole {
-        say_length(count);
+        say_length(rt, count)?;
     }
+    Ok(())
 }
 
 // A string that is no text, and why.
-fn say_units(e: Refusal, units: &[u8]) {
+fn say_units(rt: &impl Print, e: Refusal, units: &[u8]) -> io::Result<()> {
     match e {
         Refusal::NotText => {
-            words::text(b"no text, a surrogate is alone: ");
-            say_bytes(units);
+            words::text(rt, b"no text, a surrogate is alone: ")?;
+            say_bytes(rt, units)
         }
-        _ => {
-            say_bytes(units);
-        }
+        _ => { say_bytes(rt, units) }
     }
 }
 
 // A string that was read: its units, by their text where they have one.
-pub fn say_string(units: &[u8], room: &mut [u8]) {
+pub fn say_string(rt: &impl Print, units: &[u8], room: &mut [u8]) -> io::Result<()> {
     let made = text::to_utf8(units, room);
     match made {
-        Wrote::Bytes(n) => {
-            say_text(&room[..n], units.len());
-        }
-        Wrote::Refused(e) => say_units(e, units),
+        Wrote::Bytes(n) => { say_text(rt, &room[..n], units.len()) }
+        Wrote::Refused(e) => say_units(rt, e, units),
     }
 }

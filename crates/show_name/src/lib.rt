@@ -4,91 +4,101 @@
 #![tactic(auto)]
 
 use column_type::{FixedLen, LongLen};
+use std::io;
 
 // A type with a number in brackets.
-pub fn sized(name: &[u8], n: u64) -> usize {
-    let a = words::both(words::text(name), words::text(b"("));
-    let b = words::both(words::decimal(n), words::text(b")"));
-    words::both(a, b)
+pub fn sized(rt: &impl Print, name: &[u8], n: u64) -> io::Result<usize> {
+    let a = words::both(words::text(rt, name)?, words::text(rt, b"(")?);
+    let b = words::both(words::decimal(rt, n)?, words::text(rt, b")")?);
+    Ok(words::both(a, b))
 }
 
 // A type with precision and scale.
-pub fn exact(name: &[u8], precision: u8, scale: u8) -> usize {
-    let a = words::both(words::text(name), words::text(b"("));
-    let b = words::both(words::decimal(precision as u64), words::text(b","));
-    let c = words::both(words::decimal(scale as u64), words::text(b")"));
-    words::both(a, words::both(b, c))
+pub fn exact(rt: &impl Print, name: &[u8], precision: u8, scale: u8) -> io::Result<usize> {
+    let a = words::both(words::text(rt, name)?, words::text(rt, b"(")?);
+    let b = words::both(
+        words::decimal(rt, precision as u64)?,
+        words::text(rt, b",")?,
+    );
+    let c = words::both(words::decimal(rt, scale as u64)?, words::text(rt, b")")?);
+    Ok(words::both(a, words::both(b, c)))
 }
 
 // A type of letters whose bytes are no whole number of them.
-pub fn odd(name: &[u8], n: u64) -> usize {
-    let a = words::both(words::text(name), words::text(b"("));
-    let b = words::both(words::decimal(n), words::text(b" bytes)"));
-    words::both(a, b)
+pub fn odd(rt: &impl Print, name: &[u8], n: u64) -> io::Result<usize> {
+    let a = words::both(words::text(rt, name)?, words::text(rt, b"(")?);
+    let b = words::both(words::decimal(rt, n)?, words::text(rt, b" bytes)")?);
+    Ok(words::both(a, b))
 }
 
 // A type of content that has no bound of its own.
-pub fn unbounded(name: &[u8]) -> usize {
-    words::both(words::text(name), words::text(b"(max)"))
+pub fn unbounded(rt: &impl Print, name: &[u8]) -> io::Result<usize> {
+    Ok(words::both(words::text(rt, name)?, words::text(rt, b"(max)")?))
 }
 
-pub fn fixed(t: FixedLen) -> usize {
+pub fn fixed(rt: &impl Print, t: FixedLen) -> io::Result<usize> {
     match t {
-        FixedLen::Null => words::text(b"null"),
-        FixedLen::Int1 => words::text(b"tinyint"),
-        FixedLen::Bit => words::text(b"bit"),
-        FixedLen::Int2 => words::text(b"smallint"),
-        FixedLen::Int4 => words::text(b"int"),
-        FixedLen::Datetime4 => words::text(b"smalldatetime"),
-        FixedLen::Float4 => words::text(b"real"),
-        FixedLen::Money => words::text(b"money"),
-        FixedLen::Datetime => words::text(b"datetime"),
-        FixedLen::Float8 => words::text(b"float(53)"),
-        FixedLen::Money4 => words::text(b"smallmoney"),
-        FixedLen::Int8 => words::text(b"bigint"),
+        FixedLen::Null => words::text(rt, b"null"),
+        FixedLen::Int1 => words::text(rt, b"tinyint"),
+        FixedLen::Bit => words::text(rt, b"bit"),
+        FixedLen::Int2 => words::text(rt, b"smallint"),
+        FixedLen::Int4 => words::text(rt, b"int"),
+        FixedLen::Datetime4 => words::text(rt, b"smalldatetime"),
+        FixedLen::Float4 => words::text(rt, b"real"),
+        FixedLen::Money => words::text(rt, b"money"),
+        FixedLen::Datetime => words::text(rt, b"datetime"),
+        FixedLen::Float8 => words::text(rt, b"float(53)"),
+        FixedLen::Money4 => words::text(rt, b"smallmoney"),
+        FixedLen::Int8 => words::text(rt, b"bigint"),
     }
 }
 
-pub fn long(t: LongLen) -> usize {
+pub fn long(rt: &impl Print, t: LongLen) -> io::Result<usize> {
     match t {
-        LongLen::Image => words::text(b"image"),
-        LongLen::Text => words::text(b"text"),
-        LongLen::NText => words::text(b"ntext"),
+        LongLen::Image => words::text(rt, b"image"),
+        LongLen::Text => words::text(rt, b"text"),
+        LongLen::NText => words::text(rt, b"ntext"),
     }
 }
 
 // An integer type by its declared length.
-pub fn integer(n: u64) -> usize {
+pub fn integer(rt: &impl Print, n: u64) -> io::Result<usize> {
     if n == 1 {
-        return words::text(b"tinyint");
+        return words::text(rt, b"tinyint");
     }
     if n == 2 {
-        return words::text(b"smallint");
+        return words::text(rt, b"smallint");
     }
     if n == 4 {
-        return words::text(b"int");
+        return words::text(rt, b"int");
     }
     if n == 8 {
-        return words::text(b"bigint");
+        return words::text(rt, b"bigint");
     }
-    sized(b"intn", n)
+    sized(rt, b"intn", n)
 }
 
 // A type that has one name at 4 bytes and another at 8.
-pub fn four_eight(n: u64, four: &[u8], eight: &[u8], other: &[u8]) -> usize {
+pub fn four_eight(
+    rt: &impl Print,
+    n: u64,
+    four: &[u8],
+    eight: &[u8],
+    other: &[u8],
+) -> io::Result<usize> {
     if n == 4 {
-        return words::text(four);
+        return words::text(rt, four);
     }
     if n == 8 {
-        return words::text(eight);
+        return words::text(rt, eight);
     }
-    sized(other, n)
+    sized(rt, other, n)
 }
 
 // A type that has one length.
-pub fn only(n: u64, one: u64, name: &[u8]) -> usize {
+pub fn only(rt: &impl Print, n: u64, one: u64, name: &[u8]) -> io::Result<usize> {
     if n == one {
-        return words::text(name);
+        return words::text(rt, name);
     }
-    sized(name, n)
+    sized(rt, name, n)
 }

@@ -5,6 +5,7 @@
 use bits::float;
 use bits::float::{Float32, Float64};
 use show_float::Decimal;
+use std::io;
 use wire::Guid;
 
 // The sign's bit.
@@ -28,65 +29,70 @@ fn decimal32(size: u32) -> Decimal {
 }
 
 // A number over a power of ten: the whole part, the point, and as many digits as the power has zeros.
-fn say_over(n: u64, power: u64) {
+fn say_over(rt: &impl Print, n: u64, power: u64) -> io::Result<()> {
     if power < 2 {
-        words::decimal(n);
-        return;
+        words::decimal(rt, n)?;
+        return Ok(());
     }
-    words::decimal(n / power);
-    words::text(b".");
+    words::decimal(rt, n / power)?;
+    words::text(rt, b".")?;
     let rest = n % power;
     let digits = words::both(words::places(rest), 1);
-    words::times(b"0", words::above(words::places(power), digits));
-    words::decimal(rest);
+    words::times(rt, b"0", words::above(words::places(power), digits))?;
+    words::decimal(rt, rest)?;
+    Ok(())
 }
 
 // A float's decimal behind its sign, or its bits where none is short.
-fn say_float(negative: bool, d: Decimal, bits: u64, digits: usize) {
+fn say_float(
+    rt: &impl Print,
+    negative: bool,
+    d: Decimal,
+    bits: u64,
+    digits: usize,
+) -> io::Result<()> {
     match d {
         Decimal::Short(n, power) => {
             if negative {
-                words::text(b"-");
+                words::text(rt, b"-")?;
             }
-            say_over(n, power);
+            say_over(rt, n, power)
         }
         Decimal::Long => {
-            words::text(b"bits 0x");
-            io::print_hex(libc::STDOUT_FILENO, bits, digits);
+            words::text(rt, b"bits 0x")?;
+            print!(rt; "{bits:0digits$x}")
         }
     }
 }
 
 // A float of 64 bits, by its bits.
-pub fn say_float64(bits: u64) {
+pub fn say_float64(rt: &impl Print, bits: u64) -> io::Result<()> {
     if bits < SIGN_64 {
-        say_float(false, decimal64(bits), bits, 16);
-        return;
+        return say_float(rt, false, decimal64(bits), bits, 16);
     }
-    say_float(true, decimal64(bits - SIGN_64), bits, 16);
+    say_float(rt, true, decimal64(bits - SIGN_64), bits, 16)
 }
 
 // A float of 32 bits, by its bits.
-pub fn say_float32(bits: u32) {
+pub fn say_float32(rt: &impl Print, bits: u32) -> io::Result<()> {
     if bits < SIGN_32 {
-        say_float(false, decimal32(bits), bits as u64, 8);
-        return;
+        return say_float(rt, false, decimal32(bits), bits as u64, 8);
     }
-    say_float(true, decimal32(bits - SIGN_32), bits as u64, 8);
+    say_float(rt, true, decimal32(bits - SIGN_32), bits as u64, 8)
 }
 
 // A GUID in its usual form: 8, 4, 4, 4 and 12 digits.
-pub fn say_guid(g: Guid) {
+pub fn say_guid(rt: &impl Print, g: Guid) -> io::Result<()> {
     let mut text = [0u8; 16];
     wire::inner::put_high(&mut text, 0, g.high, 8);
     wire::inner::put_high(&mut text, 8, g.low, 8);
-    words::hex(&text[0..4]);
-    words::text(b"-");
-    words::hex(&text[4..6]);
-    words::text(b"-");
-    words::hex(&text[6..8]);
-    words::text(b"-");
-    words::hex(&text[8..10]);
-    words::text(b"-");
-    words::hex(&text[10..16]);
+    words::hex(rt, &text[0..4])?;
+    words::text(rt, b"-")?;
+    words::hex(rt, &text[4..6])?;
+    words::text(rt, b"-")?;
+    words::hex(rt, &text[6..8])?;
+    words::text(rt, b"-")?;
+    words::hex(rt, &text[8..10])?;
+    words::text(rt, b"-")?;
+    words::hex(rt, &text[10..16])
 }

@@ -6,48 +6,58 @@ use column_type::Column;
 use cursor::Cursor;
 use row_place::{RowPlace, RowValue};
 use show_line::refused;
+use std::io;
 use wire::Refusal;
 
 // The values of a row that was read, a line for each.
 pub fn show_values(
+    rt: &impl Print,
     cols: [Column; 1024],
     count: usize,
     s: &[u8],
     first: RowPlace,
     joined: &[u8],
     room: &mut [u8],
-) {
+) -> io::Result<()> {
     let mut place = first;
     let mut i: usize = 0;
     while i < count {
         if 1023 < i {
-            return;
+            return Ok(());
         }
         let c = cols[i];
         let taken = place.value(c, s);
         match taken {
             RowValue::Value(found, next) => {
-                show_line::say_column(i, c);
-                show_value::say_found(found, s, joined, room);
-                words::text(b"\n");
+                show_line::say_column(rt, i, c)?;
+                show_value::say_found(rt, found, s, joined, room)?;
+                words::text(rt, b"\n")?;
                 place = next;
             }
             RowValue::Refused(_) => {
-                return;
+                return Ok(());
             }
         }
         i += 1;
     }
+    Ok(())
 }
 
 // A row that was refused: the first column whose value is, and where that begins.
-pub fn show_stop(e: Refusal, cols: [Column; 1024], count: usize, s: &[u8], cursor: Cursor) {
-    refused::say_refusal(e);
+pub fn show_stop(
+    rt: &impl Print,
+    e: Refusal,
+    cols: [Column; 1024],
+    count: usize,
+    s: &[u8],
+    cursor: Cursor,
+) -> io::Result<()> {
+    refused::say_refusal(rt, e)?;
     let mut place = RowPlace { cursor, copied: 0 };
     let mut i: usize = 0;
     while i < count {
         if 1023 < i {
-            return;
+            return Ok(());
         }
         let c = cols[i];
         let taken = place.value(c, s);
@@ -56,10 +66,10 @@ pub fn show_stop(e: Refusal, cols: [Column; 1024], count: usize, s: &[u8], curso
                 place = next;
             }
             RowValue::Refused(_) => {
-                refused::say_value(i, c, place.cursor.at);
-                return;
+                return refused::say_value(rt, i, c, place.cursor.at);
             }
         }
         i += 1;
     }
+    Ok(())
 }

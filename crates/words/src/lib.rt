@@ -1,18 +1,20 @@
-// The words that the programs print: text, whole numbers, bytes as hexadecimal digits.
+// The words that the programs print: text, whole numbers, bytes as hexadecimal digits. What cannot be
+// written is an error.
 
 #![tactic(auto)]
 
-ghost use Rattle.std.specs.Prelude.{◌≡◌, ◌<◌, ◌≤◌, length};
+ghost use Rattle.std.specs.Prelude.{◌≡◌, ◌<◌, ◌≤◌, length, IfOk};
 ghost use Rattle.format.specs.Answer as Answer;
 ghost use Rattle.wire.specs.Told.{refusal_told};
 
-use libc::STDOUT_FILENO;
+use std::io;
+use std::io::Read;
 use wire::Refusal;
 
 // Text as it stands, and how many bytes it has.
-pub fn text(s: &[u8]) -> usize {
-    io::write_all(STDOUT_FILENO, s);
-    s.len()
+pub fn text(rt: &impl Print, s: &[u8]) -> io::Result<usize> {
+    rt.write_all(s)?;
+    Ok(s.len())
 }
 
 // Two counts together. Lines and frames are short, so the sum is exact for every one that occurs.
@@ -37,23 +39,23 @@ pub fn places(n: u64) -> usize {
 }
 
 // A number in decimal, and how many digits it has.
-pub fn decimal(n: u64) -> usize {
-    io::print_decimal(STDOUT_FILENO, n);
-    places(n)
+pub fn decimal(rt: &impl Print, n: u64) -> io::Result<usize> {
+    rt.print(n)?;
+    Ok(places(n))
 }
 
 // A whole number by its bits in two's complement: those from `half` on stand for the negative ones.
-pub fn signed(n: u64, half: u64) -> usize {
+pub fn signed(rt: &impl Print, n: u64, half: u64) -> io::Result<usize> {
     if n < half {
-        return decimal(n);
+        return decimal(rt, n);
     }
     let over = n - half;
     if over < half {
-        let sign = text(b"-");
-        let rest = decimal(half - over);
-        return both(sign, rest);
+        let sign = text(rt, b"-")?;
+        let rest = decimal(rt, half - over)?;
+        return Ok(both(sign, rest));
     }
-    0
+    Ok(0)
 }
 
 // Document 01's number of a refusal.
@@ -100,10 +102,10 @@ fn spell(s: &[u8], text: &mut [u8]) -> usize
 }
 
 // The digits of at most 2,048 bytes, in one write.
-fn chunk(s: &[u8]) {
+fn chunk(rt: &impl Print, s: &[u8]) -> io::Result<()> {
     let mut digits = [0u8; 4096];
     let n = spell(s, &mut digits);
-    io::write_all(STDOUT_FILENO, &digits[..n]);
+    rt.write_all(&digits[..n])
 }
 
 // Where a part of at most so many bytes ends.
@@ -118,39 +120,42 @@ fn end_of_part(s: &[u8], at: usize, most: usize) -> usize
 }
 
 // Bytes, two digits each, a chunk at a time.
-pub fn hex(s: &[u8]) {
+pub fn hex(rt: &impl Print, s: &[u8]) -> io::Result<()> {
     let mut at = 0;
     while at < s.len() {
         let end = end_of_part(s, at, 2048);
-        chunk(&s[at..end]);
+        chunk(rt, &s[at..end])?;
         at = end;
     }
+    Ok(())
 }
 
 // One line of bytes.
-fn line(s: &[u8]) {
-    text(b"  ");
-    chunk(s);
-    text(b"\n");
+fn line(rt: &impl Print, s: &[u8]) -> io::Result<()> {
+    text(rt, b"  ")?;
+    chunk(rt, s)?;
+    rt.write_all(b"\n")
 }
 
 // Bytes, two digits each, 32 in a line.
-pub fn hex_lines(s: &[u8]) {
+pub fn hex_lines(rt: &impl Print, s: &[u8]) -> io::Result<()> {
     let mut at = 0;
     while at < s.len() {
         let end = end_of_part(s, at, 32);
-        line(&s[at..end]);
+        line(rt, &s[at..end])?;
         at = end;
     }
+    Ok(())
 }
 
 // A text so many times.
-pub fn times(s: &[u8], n: usize) {
+pub fn times(rt: &impl Print, s: &[u8], n: usize) -> io::Result<()> {
     let mut i: usize = 0;
     while i < n {
-        text(s);
+        text(rt, s)?;
         i += 1;
     }
+    Ok(())
 }
 
 // How much a is above b; nothing where it is not.
@@ -159,4 +164,20 @@ pub fn above(a: usize, b: usize) -> usize {
         return 0;
     }
     a - b
+}
+
+// Reads until the buffer is full or the input ends: how many bytes stand at its front. A read that
+// fails is an error.
+pub fn read_full(input: &mut impl Read, s: &mut [u8]) -> io::Result<usize>
+    ensures { IfOk result (λ n. n ≤ length s.new) }
+{
+    let mut done = 0;
+    while done < s.len() {
+        let n = input.read(&mut s[done..])?;
+        if n == 0 {
+            break;
+        }
+        done += n;
+    }
+    Ok(done)
 }
