@@ -39,7 +39,8 @@ module _ (r : Counted) (told : Read ℕ) (new : List ℕ) (next : ℕ) (out : Li
   abbrev pub Leaves : Read (List ℕ) → Type 0
   Leaves read = (r ≡ counted (written read)) × ((new ≡ room_after_read itself read out) × (next ≡ ends read before))
 
-  pub leaves : (read : Read (List ℕ)) → told ≡ map_read length read → r ≡ counted (count told) → new ≡ room_after_read itself read out → next ≡ ends told before →
+  pub leaves : (read : Read (List ℕ)) → told ≡ map_read length read → r ≡ counted (count told) → new ≡ room_after_read itself read out → next ≡ ends told
+      before →
       Leaves read
   leaves (took form m) e c n h = (c ∙ ap (λ (x : Read ℕ). counted (count x)) e, (n, h ∙ ap (λ (x : Read ℕ). ends x before) e))
   leaves (stops f) e c n h = (c ∙ ap (λ (x : Read ℕ). counted (count x)) e, (n, h ∙ ap (λ (x : Read ℕ). ends x before) e))

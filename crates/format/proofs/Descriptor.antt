@@ -11,7 +11,7 @@ use mathlib.Core.Path.{◌≡◌, refl, sym, ap, ◌∙◌}
 use mathlib.Core.List.{List, [], ◌∷◌, ◌++◌, append-nil}
 use mathlib.Core.Bool.{Bool, true, false, not}
 use mathlib.Core.Option.{Option, none, some}
-use Prim.Native.Nat.{ℕ, ◌+◌, ◌*◌, ◌/◌, ◌%◌, ◌^◌, ◌<◌}
+use Prim.Native.Nat.{ℕ, ◌*◌, ◌/◌, ◌%◌, ◌^◌, ◌<◌}
 use native.Mathlib.Omega.{arith}
 use lib.ListN.{length, take, drop}
 use lib.Dec.{ltb, eqb}
@@ -80,7 +80,8 @@ typed_again : (t : TypeId) (x rest : List ℕ) (c : Column) → read_fields t (x
     read_column ((type_byte t ∷ x) ++ rest) ≡ took c (length (type_byte t ∷ x))
 unfolding read_column read_byte
 typed_again t x rest c q =
-    then_again read_byte read_type (type_byte t ∷ []) x rest (type_byte t) c (λ more. refl) (ap (λ (a : Answer TypeId). read_typed a (x ++ rest)) (type_again t) ∙ q)
+    then_again read_byte read_type (type_byte t ∷ []) x rest (type_byte t) c (λ more. refl)
+    (ap (λ (a : Answer TypeId). read_typed a (x ++ rest)) (type_again t) ∙ q)
 
 -- the rule, part by part
 record Kept (t : TypeId) (n p x : ℕ) (l : Option Collation) (m : Option Schema) : Type 0 where
@@ -179,7 +180,8 @@ byte_len_again g n p x rest k =
     form-again t 1 (byte-form g) n p x none rest k (rw (i, append-nil (digits_bytes (has_digits (byte_len g)) p x)) q)
 
 -- names
-name_again : (w : ℕ) (a rest : List ℕ) → name_fits w (inside a) ≡ true → read_name w (name_bytes w (inside a) ++ rest) ≡ took a (length (name_bytes w (inside a)))
+name_again : (w : ℕ) (a rest : List ℕ) → name_fits w (inside a) ≡ true → read_name w (name_bytes w (inside a) ++ rest)
+    ≡ took a (length (name_bytes w (inside a)))
 name_again w a rest h =
     let u = length a / 2 in
     let p = both_true (eqb (length a % 2) 0) (ltb u (256 ^ w)) h in

@@ -108,7 +108,8 @@ null_head rest = then_again (read_low 8) head_of (low_bytes 8 plp_null) [] rest 
 
 unknown_head : (rest : List ℕ) → read_plp_head (low_bytes 8 plp_unknown ++ rest) ≡ took (chunked none) 8
 unfolding read_plp_head
-unknown_head rest = then_again (read_low 8) head_of (low_bytes 8 plp_unknown) [] rest plp_unknown (chunked none) (λ more. low_again 8 plp_unknown more (lit< tt)) refl
+unknown_head rest = then_again (read_low 8) head_of (low_bytes 8 plp_unknown) [] rest plp_unknown (chunked none)
+    (λ more. low_again 8 plp_unknown more (lit< tt)) refl
 
 -- behind eight bytes that say an unknown length, a walk that ends and what it joins
 plp_joins : (text : Bool) (s c : List ℕ) (x : Walked) → read_plp_head s ≡ took (chunked none) 8 →

@@ -42,6 +42,7 @@ module _ (s : List ℕ) where
   unfolding read_header
   header-status h t u = rw (le-ltb (length s) 8 h, t, u)
 
-  pub header_there : 8 ≤ length s → listed packet_types (get_or s 0 0) ≡ true → listed packet_statuses (get_or s 1 0) ≡ true → read_header s ≡ took (header_of s) 8
+  pub header_there : 8 ≤ length s → listed packet_types (get_or s 0 0) ≡ true → listed packet_statuses (get_or s 1 0) ≡ true → read_header s
+      ≡ took (header_of s) 8
   unfolding read_header
   header_there h t u = rw (le-ltb (length s) 8 h, t, u)

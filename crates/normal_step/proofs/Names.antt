@@ -54,7 +54,8 @@ module _ (b : List ℕ) where
   same_row ys =
       let l : length (columns_told b ys) ≡ length (columns_told [] ys) = length-map ys (column_told b) ∙ sym (length-map ys (column_told [])) in
       ap {B = List ℕ → Read (List Value)} (λ (k : ℕ) (s : List ℕ). stop_if (ltb max_columns k) rule (read_values (columns_told b ys) s)) l
-      ∙ ap {B = List ℕ → Read (List Value)} (λ (r : List ℕ → Read (List Value)) (s : List ℕ). stop_if (ltb max_columns (length (columns_told [] ys))) rule (r s))
+      ∙ ap {B = List ℕ → Read (List Value)} (λ (r : List ℕ → Read (List Value)) (s : List ℕ). stop_if (ltb max_columns (length (columns_told [] ys))) rule
+          (r s))
       (same_values ys)
 
   pub same_encode : (ys : List Column) (vs : List Value) → encode_row (columns_told b ys) vs ≡ encode_row (columns_told [] ys) vs
@@ -65,7 +66,8 @@ module _ (b : List ℕ) where
 
   pub same_normal : (ys : List Column) (l : List ℕ) → normal (columns_told b ys) l ≡ normal (columns_told [] ys) l
   unfolding normal
-  same_normal ys l = ap (λ (r : List ℕ → Read (List Value)). map_read (encode_row (columns_told b ys)) (r l)) (same_row ys) ∙ go (read_row (columns_told [] ys) l)
+  same_normal ys l = ap (λ (r : List ℕ → Read (List Value)). map_read (encode_row (columns_told b ys)) (r l)) (same_row ys)
+      ∙ go (read_row (columns_told [] ys) l)
     where
       go : (r : Read (List Value)) → map_read (encode_row (columns_told b ys)) r ≡ map_read (encode_row (columns_told [] ys)) r
       go (took vs n) = ap (λ (x : List ℕ). took x n) (same_encode ys vs)

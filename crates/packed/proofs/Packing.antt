@@ -76,7 +76,8 @@ module _ (a p x n₀ n₁ n₂ n₃ k₀ k₁ k₂ k₃ k₄ z i₀ i₁ : ℕ) 
     again : (flags : ℕ) → ltb flags 4 ≡ true → z ≡ 0 → unused_zero (has_collation flags) five ≡ true → unused_zero (has_schema flags) index ≡ true
         → keeps_places (bytes flags) ≡ true → record_of (column_of (bytes flags) names) (index_at (bytes flags)) ≡ bytes flags
     unfolding record_of column_of
-    again zero l e c d k = rw (k, h, type_byte_lem a t h, e) (parts 0 (low_forth size s) (zeros 5 five (low_forth five f) c) (zeros 2 index (low_forth index i) d))
+    again zero l e c d k = rw (k, h, type_byte_lem a t h, e) (parts 0 (low_forth size s) (zeros 5 five (low_forth five f) c)
+        (zeros 2 index (low_forth index i) d))
     again (suc zero) l e c d k = rw (k, h, type_byte_lem a t h, e) (parts 1 (low_forth size s) collated (zeros 2 index (low_forth index i) d))
     again (suc (suc zero)) l e c d k =
         rw (k, h, type_byte_lem a t h, e) (parts 2 (low_forth size s) (zeros 5 five (low_forth five f) c) (low_forth index i))

@@ -20,7 +20,8 @@ use Rattle.packed_slots.specs.Steps.{Readable}
 use Rattle.packed_read.specs.Told.{slotted, row_out, values_after}
 
 -- the list's test on what was judged is the list's test on the row
-pub slotted-map : {A B : Type 0} (f : A → B) (columns numbers : ℕ) (r : Read A) → slotted columns numbers (map_read f r) ≡ map_read f (slotted columns numbers r)
+pub slotted-map : {A B : Type 0} (f : A → B) (columns numbers : ℕ) (r : Read A) → slotted columns numbers (map_read f r) ≡ map_read f
+    (slotted columns numbers r)
 slotted-map f columns numbers (took v n) = go (ltb numbers (3 * columns))
   where
     go : (t : Bool) → stop_if t room (took (f v) n) ≡ map_read f (stop_if t room (took v n))

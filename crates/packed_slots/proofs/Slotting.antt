@@ -140,7 +140,8 @@ module _ (ys : List Column) (s : List ℕ) (from : ℕ) (values₀ out₀ : List
 
   -- ---- one turn
 
-  module _ (i : ℕ) (p : Place) (vs bs : List ℕ) (d : D.Column) (l : i < length ys) (z : Slotted i p vs bs) (e : d ≡ column_told [] (get_or ys i no_column)) where
+  module _ (i : ℕ) (p : Place) (vs bs : List ℕ) (d : D.Column) (l : i < length ys) (z : Slotted i p vs bs) (e : d ≡ column_told [] (get_or ys i no_column))
+      where
     abbrev ds : List D.Column
     ds = left (i + 1)
 
@@ -234,7 +235,8 @@ module _ (ys : List Column) (s : List ℕ) (from : ℕ) (values₀ out₀ : List
         let m : [] ≡ drop p.copied joined = rw o at z.copies in
         z.copied-holds ∙ front-end joined p.copied out₀ z.copied-upto (sym m)
 
-    pub joining_ends : Readable (length out₀) cs (read_at (read_values cs) s from) → bs ≡ room_after_read (copied_out_row cs) (read_at (read_values cs) s from) out₀
+    pub joining_ends : Readable (length out₀) cs (read_at (read_values cs) s from) → bs ≡ room_after_read (copied_out_row cs)
+        (read_at (read_values cs) s from) out₀
     unfolding room_after_read
     joining_ends h = go (read_at (read_values cs) s from) h all_copied
       where

@@ -209,7 +209,8 @@ module _ (ys : List Column) (s : List ℕ) (from : ℕ) (out₀ : List ℕ) wher
   goes b (stops r) f i p bs h e l z = absurd (omega (arith, ap (λ (x : Read Needs). turns_of x n) e, l))
 
   -- what a step is given and what it answers
-  module _ (f : Read Needs) (is : (b : List ℕ) → f ≡ map_read (needs_of (columns_told b ys)) (answer b)) (i : ℕ) (p : Place) (bs : List ℕ) (l : i < turns_of f n)
+  module _ (f : Read Needs) (is : (b : List ℕ) → f ≡ map_read (needs_of (columns_told b ys)) (answer b)) (i : ℕ) (p : Place) (bs : List ℕ)
+      (l : i < turns_of f n)
       (z : (b : List ℕ) → Joined b (answer b) i p bs) (c : Column) (at : c ≡ get_or ys i no_column) where
     pub joining_asks : (b : List ℕ) → FitsAt (column_told b c) (read_at (read_value (column_told b c)) s p.at) p.copied (length bs)
     joining_asks b = rw at (asks b (answer b) f i p bs refl (is b) l (z b))
@@ -220,7 +221,8 @@ module _ (ys : List Column) (s : List ℕ) (from : ℕ) (out₀ : List ℕ) wher
     joining_next q after g b = rw ((g b).0, (g b).1, at) (goes b (answer b) f i p bs refl (is b) l (z b))
 
   -- behind the last turn
-  ends : (b : List ℕ) (a : Read (List Value)) (f : Read Needs) (i : ℕ) (p : Place) (bs : List ℕ) → f ≡ map_read (needs_of (columns_told b ys)) a → i ≡ turns_of f n
+  ends : (b : List ℕ) (a : Read (List Value)) (f : Read Needs) (i : ℕ) (p : Place) (bs : List ℕ) → f ≡ map_read (needs_of (columns_told b ys)) a → i
+      ≡ turns_of f n
       → Joined b a i p bs → bs ≡ room_after_read (copied_out_row (columns_told b ys)) a out₀
   unfolding room_after_read copied_out_row
   ends b (took vs next) f i p bs e l z = go (eqb (length j) 0) refl
@@ -241,5 +243,6 @@ module _ (ys : List Column) (s : List ℕ) (from : ℕ) (out₀ : List ℕ) wher
   ends b (stops r) f i p bs e l z = z
 
   pub joining_ends : (f : Read Needs) → ((b : List ℕ) → f ≡ map_read (needs_of (columns_told b ys)) (answer b)) → (i : ℕ) (p : Place) (bs : List ℕ)
-      → i ≡ turns_of f n → ((b : List ℕ) → Joined b (answer b) i p bs) → (b : List ℕ) → bs ≡ room_after_read (copied_out_row (columns_told b ys)) (answer b) out₀
+      → i ≡ turns_of f n → ((b : List ℕ) → Joined b (answer b) i p bs) → (b : List ℕ) → bs ≡ room_after_read (copied_out_row (columns_told b ys))
+          (answer b) out₀
   joining_ends f is i p bs l z b = ends b (answer b) f i p bs (is b) l (z b)

@@ -113,7 +113,8 @@ module _ (c : D.Column) (s out : List ℕ) (at copied : ℕ) (fits : FitsAt c (r
       pub count_fits : copied + room_count found ≤ length out
       count_fits = omega (arith, count_there, there.room)
 
-      pub placed_there : took (record { found = found; copied = copied + room_count found }) next ≡ map_read (placed_of c at copied) (read_at (read_value c) s at)
+      pub placed_there : took (record { found = found; copied = copied + room_count found }) next ≡ map_read (placed_of c at copied)
+          (read_at (read_value c) s at)
       placed_there =
           let e : next ≡ there.next = cc (h ∙ found_there) in
           let f : found ≡ F.found_of c at copied there.value = cc (h ∙ found_there) in

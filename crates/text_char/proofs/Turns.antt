@@ -76,7 +76,8 @@ module _ (char : List ℕ → Read ℕ) (spell : ℕ → List ℕ) (s : List ℕ
   from_stops : (e : Refusal) → at < length s → stops e ≡ char (drop at s) → converted char spell (drop at s) ≡ refuses e
   from_stops e h q = converted_stops char spell (drop at s) e (omega (arith, length-drop at s)) (sym q)
 
-  from_took : (c k : ℕ) → Stands char s at c k → converted char spell (drop at s) ≡ and_then (converted char spell (drop (at + k) s)) (λ u. gives (spell c ++ u))
+  from_took : (c k : ℕ) → Stands char s at c k → converted char spell (drop at s) ≡ and_then (converted char spell (drop (at + k) s))
+      (λ u. gives (spell c ++ u))
   from_took c k r =
       let l : 0 < length (drop at s) = omega (arith, r.begins, length-drop at s) in
       rw (← drop-drop k at s) (converted_took char spell (drop at s) c k l r.some (sym r.is))

@@ -67,7 +67,8 @@ module _ (c : D.Column) where
     stands-input t ContentKind.binary s = rw t
     stands-input t ContentKind.string s = rw t
 
-    pub stands-room : is_plp c ≡ true → (k : ContentKind) (o : Option (List ℕ)) → F.found_of c at copied (content_value k o) ≡ found_counted k copied (counted o)
+    pub stands-room : is_plp c ≡ true → (k : ContentKind) (o : Option (List ℕ)) → F.found_of c at copied (content_value k o) ≡ found_counted k copied
+        (counted o)
     stands-room t k none = refl
     stands-room t ContentKind.binary (some s) = rw t
     stands-room t ContentKind.string (some s) = rw t

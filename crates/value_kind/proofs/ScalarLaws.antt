@@ -28,7 +28,8 @@ pub only : (b : Bool) → b ≡ pick b true false
 only true = refl
 only false = refl
 
-pub low_bytes_lem : (s : Scalar) → ((g : Guid) → s ≡ C.Guid g → ⊥) → scalar_bytes (scalar_told s) ≡ low_bytes (width (kind_of (scalar_told s))) (number_of (scalar_told s))
+pub low_bytes_lem : (s : Scalar) → ((g : Guid) → s ≡ C.Guid g → ⊥) → scalar_bytes (scalar_told s) ≡ low_bytes (width (kind_of (scalar_told s)))
+    (number_of (scalar_told s))
 unfolding scalar_bytes
 low_bytes_lem (C.Bit true) h = refl
 low_bytes_lem (C.Bit false) h = refl

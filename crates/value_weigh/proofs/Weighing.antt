@@ -116,7 +116,8 @@ module _ (declared : ℕ) (s : List ℕ) (v : Value) (n : ℕ) where
       content-size ContentKind.binary c = rw t (omega arith)
       content-size ContentKind.string c = rw t (omega arith)
 
-  null_size : (k : ContentKind) (o : Option (List ℕ)) → eqb declared plp_mark ≡ true → read_plp (is_text k) s ≡ took o n → content_value k o ≡ v → Single declared v
+  null_size : (k : ContentKind) (o : Option (List ℕ)) → eqb declared plp_mark ≡ true → read_plp (is_text k) s ≡ took o n → content_value k o ≡ v
+      → Single declared v
       → Sized (some (content k))
   unfolding plp_bytes
   null_size k none t h e w = rw (← e, t) (null_eight (is_text k) n (Plps.plp_took (is_text k) s none n h))
@@ -176,14 +177,16 @@ no_scalar ContentKind.binary (some c) x h = clash cc
 no_scalar ContentKind.string (some c) x h = clash cc
 
 module _ (declared : ℕ) (s : List ℕ) (t : eqb declared plp_mark ≡ true) (k : ContentKind) where
-  no_width : {P : Type 0} (w : ℕ) (j : Option Kind) (rest : List ℕ) (o : Option (List ℕ)) (m : ℕ) → read_width declared w j rest ≡ took (content_value k o) m → P
+  no_width : {P : Type 0} (w : ℕ) (j : Option Kind) (rest : List ℕ) (o : Option (List ℕ)) (m : ℕ) → read_width declared w j rest ≡ took (content_value k o)
+      m → P
   no_width w none rest o m h = no_took sequence (content_value k o) m h
   no_width w (some j) rest o m h =
       let p = past (ltb declared w) long (map_read Value.scalar (read_scalar j rest)) (content_value k o) m h in
       let q = map-took Value.scalar (read_scalar j rest) (content_value k o) m p.1 in
       no_scalar k o q.0 q.2
 
-  no_listed : {P : Type 0} (ks : List Kind) (o : Option (List ℕ)) (n : ℕ) → 8 ≤ n → read_family declared (some (length_byte ks)) s ≡ took (content_value k o) n → P
+  no_listed : {P : Type 0} (ks : List Kind) (o : Option (List ℕ)) (n : ℕ) → 8 ≤ n → read_family declared (some (length_byte ks)) s
+      ≡ took (content_value k o) n → P
   no_listed ks o n l h =
       let p = then_took read_byte (read_length_byte ks declared) s (content_value k o) n h in
       let b = byte-took s p.0 p.1 p.3 in

@@ -22,7 +22,8 @@ end_of-requires c = omega (arith, there (goal.at.end_of-requires c).Then-inside)
 pub returns-then-n-eq0 : goal.returns-then-n-eq0
 returns-then-n-eq0 c =
     let a = c.args in
-    c.end_of.ensures ∙ sym (head_zero a.s.now (walk_told a.w) (there (goal.at.returns-then-n-eq0 c).Then-inside) (sym c.low_at-n.ensures.value ∙ c.if-n-eq0.true))
+    c.end_of.ensures ∙ sym (head_zero a.s.now (walk_told a.w) (there (goal.at.returns-then-n-eq0 c).Then-inside)
+        (sym c.low_at-n.ensures.value ∙ c.if-n-eq0.true))
 
 pub chunk_of-requires : goal.chunk_of-requires
 chunk_of-requires c = there (goal.at.chunk_of-requires c).Then-inside
@@ -30,7 +31,8 @@ chunk_of-requires c = there (goal.at.chunk_of-requires c).Then-inside
 pub returns-then-inside : goal.returns-then-inside
 returns-then-inside c =
     let a = c.args in
-    c.chunk_of.ensures ∙ sym (head_chunk a.s.now (walk_told a.w) (there (goal.at.returns-then-inside c).Then-inside) _ c.low_at-n.ensures.value c.if-n-eq0.false)
+    c.chunk_of.ensures ∙ sym (head_chunk a.s.now (walk_told a.w) (there (goal.at.returns-then-inside c).Then-inside) _ c.low_at-n.ensures.value
+        c.if-n-eq0.false)
 
 pub returns : goal.returns
 returns c =

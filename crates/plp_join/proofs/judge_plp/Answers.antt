@@ -32,4 +32,5 @@ returns-in-Walked c =
 pub returns-in-Refused-walked : goal.returns-in-Refused-walked
 returns-in-Refused-walked c =
     let a = c.args in
-    sym (judge_refused a.text a.rest.now _ _ (opens (goal.at.returns-in-Refused-walked c).In-Walk) _ (sym c.walk_chunks-walked.ensures ∙ ap walked_told c.in-Refused-walked.is))
+    sym (judge_refused a.text a.rest.now _ _ (opens (goal.at.returns-in-Refused-walked c).In-Walk) _
+        (sym c.walk_chunks-walked.ensures ∙ ap walked_told c.in-Refused-walked.is))

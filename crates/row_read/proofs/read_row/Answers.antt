@@ -49,7 +49,8 @@ loop-i-preserved c =
       turns = i.turns;
       upto = omega arith;
       same = c.join_on-place.auto.out ∙ i.same;
-      joined = joining_next a.cols.now a.s.now a.cursor.at a.out.now (row_judged_told c.fit_in-fits.result) (fits (goal.at.loop-i-preserved c).After-fit_in-fits)
+      joined = joining_next a.cols.now a.s.now a.cursor.at a.out.now (row_judged_told c.fit_in-fits.result)
+          (fits (goal.at.loop-i-preserved c).After-fit_in-fits)
           c.loop-i.i (place_told c.loop-i.place) c.loop-i.out (turn (goal.at.loop-i-preserved c).In-loop-i) i.joined c.column_at-c.result c.column_at-c.ensures
           (place_told c.join_on-place.result) _ c.join_on-place.ensures;
     }

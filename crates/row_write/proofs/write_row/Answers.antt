@@ -12,7 +12,8 @@ use Rattle.row_write.proofs.write_row.Goals as goal
 fits : (c : After-fit_in-fits) → wrote_told c.fit_in-fits.result ≡ wrote (answer c.args.buffer.now c.args.cols.now c.args.values.now c.args.out.now)
 fits c =
     let a = c.args in
-    c.fit_in-fits.ensures ∙ (ap (λ r. fit_in r (length a.out.now)) c.row_size-size.ensures ∙ fit_wrote (asked a.buffer.now a.cols.now a.values.now) (length a.out.now))
+    c.fit_in-fits.ensures ∙ (ap (λ r. fit_in r (length a.out.now)) c.row_size-size.ensures ∙ fit_wrote (asked a.buffer.now a.cols.now a.values.now)
+        (length a.out.now))
 
 pub loop-i-init : goal.loop-i-init
 loop-i-init c =
@@ -40,7 +41,8 @@ value_at-v-requires c =
 pub fill_on-at-requires : goal.fill_on-at-requires
 fill_on-at-requires c =
     let a = c.args in
-    filling_asks_of a.buffer.now a.cols.now a.values.now a.out.now _ c.loop-i.i c.loop-i.at c.loop-i.out _ _ refl (turn (goal.at.fill_on-at-requires c).In-loop-i)
+    filling_asks_of a.buffer.now a.cols.now a.values.now a.out.now _ c.loop-i.i c.loop-i.at c.loop-i.out _ _ refl
+        (turn (goal.at.fill_on-at-requires c).In-loop-i)
     c.loop-i.invariant.filled c.column_at-c.ensures c.value_at-v.ensures
 
 pub loop-i-preserved : goal.loop-i-preserved
@@ -50,7 +52,8 @@ loop-i-preserved c =
       turns = i.turns;
       upto = omega arith;
       same = c.fill_on-at.auto.out ∙ i.same;
-      filled = filling_next a.buffer.now a.cols.now a.values.now a.out.now _ c.loop-i.i c.loop-i.at _ c.loop-i.out _ c.column_at-c.result c.value_at-v.result refl
+      filled = filling_next a.buffer.now a.cols.now a.values.now a.out.now _ c.loop-i.i c.loop-i.at _ c.loop-i.out _ c.column_at-c.result
+          c.value_at-v.result refl
           (turn (goal.at.loop-i-preserved c).In-loop-i) i.filled c.column_at-c.ensures c.value_at-v.ensures c.fill_on-at.ensures.0 c.fill_on-at.ensures.1;
     }
 

@@ -14,15 +14,18 @@ placed-all : (c room : List ℕ) → length room ≡ length c → placed c room 
 placed-all c room l = rw (drop_of_length-le room {i = length c} (omega arith), append-nil)
 
 pub slice_bounds-copy_chunks-end : goal.slice_bounds-copy_chunks-end
-slice_bounds-copy_chunks-end c = part_end (content_of c.args.text c.args.rest.now) c.args.out.now _ _ c.requires.1 (c.put_frame-end.ensures.end, c.put_frame-end.ensures.room)
+slice_bounds-copy_chunks-end c = part_end (content_of c.args.text c.args.rest.now) c.args.out.now _ _ c.requires.1
+    (c.put_frame-end.ensures.end, c.put_frame-end.ensures.room)
 
 pub copy_chunks-requires : goal.copy_chunks-requires
 copy_chunks-requires c =
-    let count = part_count (content_of c.args.text c.args.rest.now) c.args.out.now _ _ c.requires.1 (c.put_frame-end.ensures.end, c.put_frame-end.ensures.room) in
+    let count = part_count (content_of c.args.text c.args.rest.now) c.args.out.now _ _ c.requires.1
+        (c.put_frame-end.ensures.end, c.put_frame-end.ensures.room) in
     (c.requires.0, rw (← count) (le_refl _))
 
 pub returns : goal.returns
 returns c =
-    let count = part_count (content_of c.args.text c.args.rest.now) c.args.out.now _ _ c.requires.1 (c.put_frame-end.ensures.end, c.put_frame-end.ensures.room) in
+    let count = part_count (content_of c.args.text c.args.rest.now) c.args.out.now _ _ c.requires.1
+        (c.put_frame-end.ensures.end, c.put_frame-end.ensures.room) in
     part_filled (content_of c.args.text c.args.rest.now) c.args.out.now _ _ c.requires.1 (c.put_frame-end.ensures.end, c.put_frame-end.ensures.room) _
     (c.copy_chunks.ensures ∙ placed-all (content_of c.args.text c.args.rest.now) _ count)

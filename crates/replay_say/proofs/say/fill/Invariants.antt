@@ -5,7 +5,8 @@ use Rattle.replay_say.specs.Room.{filled}
 use Rattle.replay_say.proofs.say.fill.Given as goal
 
 abbrev pub invariant-loop-i : goal.invariant-loop-i
-invariant-loop-i l = (l.i ≤ length l.initial.room) × (length l.room ≡ length l.initial.room) × (l.room ≡ front (filled (length l.initial.room)) l.i l.initial.room)
+invariant-loop-i l = (l.i ≤ length l.initial.room) × (length l.room ≡ length l.initial.room)
+    × (l.room ≡ front (filled (length l.initial.room)) l.i l.initial.room)
 
 abbrev pub decreases-loop-i : goal.decreases-loop-i
 decreases-loop-i l = length l.initial.room - l.i

@@ -34,7 +34,8 @@ returns-then-keeps_rule c =
     let f = c.family_of.ensures in
     let r = rest_is a.s.now a.self.cursor.at in
     record {
-      told = λ b. place_kept (column_told b a.c) a.s.now a.self.cursor.at a.self.copied c.if-s-at.false (keeps (goal.at.returns-then-keeps_rule c).Then-keeps_rule b) _ _ _ _ refl f r
+      told = λ b. place_kept (column_told b a.c) a.s.now a.self.cursor.at a.self.copied c.if-s-at.false
+          (keeps (goal.at.returns-then-keeps_rule c).Then-keeps_rule b) _ _ _ _ refl f r
           (c.find_in.ensures.told (column_told b a.c) refl);
       canonical = c.find_in.ensures.canonical;
     }

@@ -71,7 +71,8 @@ returns-in-Scalar c =
     let e = told (goal.at.returns-in-Scalar c).After-look-seen _ c.in-Scalar.is in
     let v = scalar_told c.scalar_at-v.result in
     let w = c.bytes_of.ensures in
-    let f : took (Value.scalar v) (c.in-Scalar.from + c.bytes_of.result) ≡ read (goal.at.returns-in-Scalar c).After-look-seen = rw (c.scalar_at-v.ensures.told, w) e in
+    let f : took (Value.scalar v) (c.in-Scalar.from + c.bytes_of.result) ≡ read (goal.at.returns-in-Scalar c).After-look-seen = rw
+        (c.scalar_at-v.ensures.told, w) e in
     record {
       told = λ d l. c.placed-in-Scalar.ensures.told ∙ scalar-placed d a.at a.copied _ _ _ f;
       canonical = c.placed-in-Scalar.ensures.canonical;
@@ -94,7 +95,8 @@ returns-in-Plp c =
     let a = c.args in
     let h = lies (goal.at.returns-in-Plp c).After-look-seen _ c.in-Plp.is in
     record {
-      told = λ d l. c.plp_value.ensures.told d (rw l h) ∙ ap (λ (r : Read Value). placed_behind d r a.at a.copied) (told (goal.at.returns-in-Plp c).After-look-seen _ c.in-Plp.is);
+      told = λ d l. c.plp_value.ensures.told d (rw l h) ∙ ap (λ (r : Read Value). placed_behind d r a.at a.copied)
+          (told (goal.at.returns-in-Plp c).After-look-seen _ c.in-Plp.is);
       canonical = c.plp_value.ensures.canonical;
     }
 

@@ -18,19 +18,22 @@ told : (c : After-judge_plp-judged) (x : Judged) → c.judge_plp-judged.result �
 told c x e = sym (ap judged_told e) ∙ rw c.is_text.ensures at c.judge_plp-judged.ensures
 
 pub overflow_add-at : goal.overflow_add-at
-overflow_add-at c = omega (arith, c.requires, plp_inside (is_text (content_kind_told c.args.k)) c.args.rest.now _ _ (told (goal.at.overflow_add-at c).After-judge_plp-judged _ c.in-Null.is))
+overflow_add-at c = omega (arith, c.requires, plp_inside (is_text (content_kind_told c.args.k)) c.args.rest.now _ _
+    (told (goal.at.overflow_add-at c).After-judge_plp-judged _ c.in-Null.is))
 
 pub returns-then-copied-count : goal.returns-then-copied-count
 returns-then-copied-count c =
     let a = c.args in
     record {
-      told = λ d t. plp_long d a.at a.copied t (content_kind_told a.k) a.rest.now _ _ (told (goal.at.returns-then-copied-count c).After-judge_plp-judged _ c.in-Content.is) c.if-copied-count.true;
+      told = λ d t. plp_long d a.at a.copied t (content_kind_told a.k) a.rest.now _ _ (told (goal.at.returns-then-copied-count c).After-judge_plp-judged _
+          c.in-Content.is) c.if-copied-count.true;
       canonical = tt;
     }
 
 pub overflow_add-at-in-Content : goal.overflow_add-at-in-Content
 overflow_add-at-in-Content c =
-    let i = plp_inside (is_text (content_kind_told c.args.k)) c.args.rest.now _ _ (told (goal.at.overflow_add-at-in-Content c).After-judge_plp-judged _ c.in-Content.is) in
+    let i = plp_inside (is_text (content_kind_told c.args.k)) c.args.rest.now _ _ (told (goal.at.overflow_add-at-in-Content c).After-judge_plp-judged _
+        c.in-Content.is) in
     record { fits = omega (arith, c.requires, i) }
 
 pub placed-requires-in-Content : goal.placed-requires-in-Content
@@ -51,7 +54,8 @@ returns-else-copied-count c =
     let e = told (goal.at.returns-else-copied-count c).After-judge_plp-judged _ c.in-Content.is in
     let k = content_kind_told a.k in
     record {
-      told = λ d t. c.placed-in-Content.ensures.told ∙ plp_placed d a.at a.copied t k a.rest.now _ _ e c.if-copied-count.false _ c.content_found-found.ensures.told;
+      told = λ d t. c.placed-in-Content.ensures.told ∙ plp_placed d a.at a.copied t k a.rest.now _ _ e c.if-copied-count.false _
+          c.content_found-found.ensures.told;
       canonical = c.placed-in-Content.ensures.canonical;
     }
 
@@ -59,6 +63,7 @@ pub returns-in-Refused : goal.returns-in-Refused
 returns-in-Refused c =
     let a = c.args in
     record {
-      told = λ d t. plp_stops d a.at a.copied t (content_kind_told a.k) a.rest.now _ (told (goal.at.returns-in-Refused c).After-judge_plp-judged _ c.in-Refused.is);
+      told = λ d t. plp_stops d a.at a.copied t (content_kind_told a.k) a.rest.now _ (told (goal.at.returns-in-Refused c).After-judge_plp-judged _
+          c.in-Refused.is);
       canonical = tt;
     }

@@ -27,12 +27,14 @@ overflow_add-result c =
     record { fits = omega (arith, n, most_wrote a.buffer.now (column_told a.buffer.now a.c) a.v _ (found c)) }
 
 pub returns-in-Bytes-size : goal.returns-in-Bytes-size
-returns-in-Bytes-size c = rw c.in-Bytes.is (added (write_value (column_told c.args.buffer.now c.args.c) (value_told c.args.buffer.now c.args.v)) c.in-Bytes.at c.in-Bytes-size.n (found c))
+returns-in-Bytes-size c = rw c.in-Bytes.is (added (write_value (column_told c.args.buffer.now c.args.c) (value_told c.args.buffer.now c.args.v))
+    c.in-Bytes.at c.in-Bytes-size.n (found c))
 
 pub returns-in-Refused-size : goal.returns-in-Refused-size
 returns-in-Refused-size c =
     rw c.in-Bytes.is
-    (added_refused (write_value (column_told c.args.buffer.now c.args.c) (value_told c.args.buffer.now c.args.v)) c.in-Bytes.at _ (sym (ap wrote_told c.in-Refused-size.is) ∙ c.value_size-size.ensures))
+    (added_refused (write_value (column_told c.args.buffer.now c.args.c) (value_told c.args.buffer.now c.args.v)) c.in-Bytes.at _
+        (sym (ap wrote_told c.in-Refused-size.is) ∙ c.value_size-size.ensures))
 
 pub returns-in-Refused : goal.returns-in-Refused
 returns-in-Refused c = rw c.in-Refused.is

@@ -24,7 +24,8 @@ fits c = let a = c.args in fits_given (text_in a.s.now) (length a.out.now) c.req
 pub loop-at-init : goal.loop-at-init
 loop-at-init c =
     let s = c.args.s.now in
-    record { inside = search rules; within = search rules; same = refl; holds = front_none _ _; left = in_gives s (given (text_in s)) (fits (goal.at.loop-at-init c).Start).0 }
+    record { inside = search rules; within = search rules; same = refl; holds = front_none _ _; left = in_gives s (given (text_in s))
+        (fits (goal.at.loop-at-init c).Start).0 }
 
 -- the character that was read
 read : (c : In-Char) → Stands char8 c.args.s.now c.loop-at.at c.in-Char.c c.in-Char.k
@@ -34,7 +35,8 @@ pub put_char16-o-requires : goal.put_char16-o-requires
 put_char16-o-requires c = write_room c.loop-at.invariant (read (goal.at.put_char16-o-requires c).In-Char) (fits (goal.at.put_char16-o-requires c).Start).1
 
 pub loop-at-preserved : goal.loop-at-preserved
-loop-at-preserved c = write_more c.loop-at.invariant (read (goal.at.loop-at-preserved c).In-Char) (fits (goal.at.loop-at-preserved c).Start).1 c.put_char16-o.ensures.size c.put_char16-o.ensures.room
+loop-at-preserved c = write_more c.loop-at.invariant (read (goal.at.loop-at-preserved c).In-Char) (fits (goal.at.loop-at-preserved c).Start).1
+    c.put_char16-o.ensures.size c.put_char16-o.ensures.room
 
 pub overflow_add-o : goal.overflow_add-o
 overflow_add-o c = omega (arith, (loop-at-preserved c).within, (fits (goal.at.overflow_add-o c).Start).1, c.well_formed)

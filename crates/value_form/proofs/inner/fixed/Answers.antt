@@ -27,7 +27,8 @@ bit-requires c = omega (arith, inside (goal.at.bit-requires c).Start, ap width (
 pub returns-then-same_kind : goal.returns-then-same_kind
 returns-then-same_kind c d =
     let a = c.args in
-    c.bit.ensures ∙ fixed-bit (kind_told a.k) a.rest.now d (is-bit (goal.at.returns-then-same_kind c).Then-same_kind) (omega (arith, inside (goal.at.returns-then-same_kind c).Start, ap width (is-bit (goal.at.returns-then-same_kind c).Then-same_kind)))
+    c.bit.ensures ∙ fixed-bit (kind_told a.k) a.rest.now d (is-bit (goal.at.returns-then-same_kind c).Then-same_kind)
+        (omega (arith, inside (goal.at.returns-then-same_kind c).Start, ap width (is-bit (goal.at.returns-then-same_kind c).Then-same_kind)))
 
 pub returns : goal.returns
 returns c d =

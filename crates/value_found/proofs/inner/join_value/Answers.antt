@@ -42,7 +42,8 @@ returns-in-Content c =
     let e = join_told (content_kind_told a.k) a.copied in
     let l = lent_rest a.out.now _ a.copied in
     record {
-      told = λ d t. same_found _ c.content_found-found.ensures.told ∙ (sym (ap e c.in-Content.is) ∙ (answers (goal.at.returns-in-Content c).After-join_in-joined d t).answered);
+      told = λ d t. same_found _ c.content_found-found.ensures.told
+          ∙ (sym (ap e c.in-Content.is) ∙ (answers (goal.at.returns-in-Content c).After-join_in-joined d t).answered);
       canonical = c.content_found-found.ensures.canonical;
       room = λ d t. l ∙ (answers (goal.at.returns-in-Content c).After-join_in-joined d t).stays;
     }

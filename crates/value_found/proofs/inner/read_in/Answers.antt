@@ -93,7 +93,8 @@ returns-in-Plp c =
     let h = lies (goal.at.returns-in-Plp c).After-look-seen _ c.in-Plp.is in
     let e = told (goal.at.returns-in-Plp c).After-look-seen _ c.in-Plp.is in
     record {
-      told = λ d l. c.join_value.ensures.told d (rw l h) ∙ ap (λ (r : Read Value). map_read (found_of d a.at a.copied) (behind d r a.at (length a.out.now - a.copied))) e;
+      told = λ d l. c.join_value.ensures.told d (rw l h) ∙ ap
+          (λ (r : Read Value). map_read (found_of d a.at a.copied) (behind d r a.at (length a.out.now - a.copied))) e;
       canonical = c.join_value.ensures.canonical;
       room = λ d l. c.join_value.ensures.room d (rw l h) ∙ ap (λ (r : Read Value). room_behind d r a.at a.copied a.out.now) e;
     }

@@ -16,7 +16,8 @@ use Rattle.value_normal.proofs.inner.content_in.Goals as goal
 
 -- what was judged
 judged : (c : Start) → let a = c.args in ContentFits a.s.now (length a.out.now) a.run (read_plp c.args.text (drop c.args.run.at c.args.s.now)) a.count a.end
-judged c = let a = c.args in content_fits a.s.now (length a.out.now) a.run (read_plp c.args.text (drop c.args.run.at c.args.s.now)) a.count a.end c.requires.0 c.requires.1
+judged c = let a = c.args in content_fits a.s.now (length a.out.now) a.run (read_plp c.args.text (drop c.args.run.at c.args.s.now)) a.count a.end
+    c.requires.0 c.requires.1
 
 pub close_run-o-requires : goal.close_run-o-requires
 close_run-o-requires c =
@@ -30,8 +31,10 @@ overflow_cast-count c =
     omega (arith, content_small a.text (drop a.run.at a.s.now) a.count a.end bytes (judged (goal.at.overflow_cast-count c).Start).counts)
 
 -- what was judged
-judged_at_after_formed : (c : After-formed) → let a = c.args in ContentFits a.s.now (length a.out.now) a.run (read_plp c.args.text (drop c.args.run.at c.args.s.now)) a.count a.end
-judged_at_after_formed c = let a = c.args in content_fits a.s.now (length a.out.now) a.run (read_plp c.args.text (drop c.args.run.at c.args.s.now)) a.count a.end c.requires.0 c.requires.1
+judged_at_after_formed : (c : After-formed) → let a = c.args in ContentFits a.s.now (length a.out.now) a.run
+    (read_plp c.args.text (drop c.args.run.at c.args.s.now)) a.count a.end
+judged_at_after_formed c = let a = c.args in content_fits a.s.now (length a.out.now) a.run (read_plp c.args.text (drop c.args.run.at c.args.s.now)) a.count
+    a.end c.requires.0 c.requires.1
 
 -- how many bytes the form has
 size : (c : After-formed) → let a = c.args in
