@@ -50,7 +50,8 @@ judge_at-state-requires c =
     let i = c.loop-i.i in
     let x = row_judged_told c.start-state.result in (
       column_there c.args.table.now i (inside (table_made c.args.table.now) c.args.s.now at x i (less c)),
-      judging_asks (table_made c.args.table.now) c.args.s.now at x i (row_judged_told c.loop-i.state) (less c) (c.loop-i.invariant.1 at (begun (goal.at.judge_at-state-requires c).After-start-state)),
+      judging_asks (table_made c.args.table.now) c.args.s.now at x i (row_judged_told c.loop-i.state) (less c)
+          (c.loop-i.invariant.1 at (begun (goal.at.judge_at-state-requires c).After-start-state)),
     )
 
 pub loop-i-preserved : goal.loop-i-preserved
@@ -82,7 +83,8 @@ returns c =
     let at = c.args.cursor.at in
     let s = c.args.s.now in
     let last = le_antisymm c.loop-i.invariant.0 c.loop-i-test.false ∙ turned (goal.at.returns c).At-loop-i in
-    let whole = judging_ends (table_made c.args.table.now) s at (row_judged_told c.start-state.result) (row_judged_told c.loop-i.state) (begun (goal.at.returns c).After-start-state)
+    let whole = judging_ends (table_made c.args.table.now) s at (row_judged_told c.start-state.result) (row_judged_told c.loop-i.state)
+    (begun (goal.at.returns c).After-start-state)
     (subst (λ (i : ℕ). Judged (table_made c.args.table.now) s at (row_judged_told c.start-state.result) i (row_judged_told c.loop-i.state)) last
     (c.loop-i.invariant.1 at (begun (goal.at.returns c).After-start-state))) [] in
     whole ∙ ap (λ (cs : List D.Column). map_read (needs_of cs) (read_at (read_row cs) s at)) (table_told [] c.args.table.now)

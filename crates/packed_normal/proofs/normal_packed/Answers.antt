@@ -47,7 +47,8 @@ less : (c : In-loop-i) (a : Read (List ℕ)) → normal_told c.fit_in-fits.resul
     → c.loop-i.i < turns_of (map_read length a) (length (table_made c.args.table.now))
 less c a e = subst (λ (n : ℕ). c.loop-i.i < n) (turned_at_in_loop_i c a e) c.loop-i-test.true
 
-fitted_at_in_loop_i : (c : In-loop-i) → normal_told c.fit_in-fits.result ≡ map_read length (form c.args.table.now c.args.s.now c.args.cursor.at (length c.args.out.now))
+fitted_at_in_loop_i : (c : In-loop-i) → normal_told c.fit_in-fits.result ≡ map_read length
+    (form c.args.table.now c.args.s.now c.args.cursor.at (length c.args.out.now))
 fitted_at_in_loop_i c =
     let a = c.args in
     c.fit_in-fits.ensures
@@ -58,9 +59,12 @@ fitted_at_in_loop_i c =
 inside : (c : In-loop-i) → c.loop-i.i < length (table_made c.args.table.now)
 inside c =
     let a = c.args in
-    copying_inside (table_made c.args.table.now) a.s.now a.cursor.at a.out.now (map_read length (form c.args.table.now c.args.s.now c.args.cursor.at (length c.args.out.now))) c.loop-i.i (less c (form c.args.table.now c.args.s.now c.args.cursor.at (length c.args.out.now)) (fitted_at_in_loop_i c))
+    copying_inside (table_made c.args.table.now) a.s.now a.cursor.at a.out.now
+    (map_read length (form c.args.table.now c.args.s.now c.args.cursor.at (length c.args.out.now))) c.loop-i.i
+    (less c (form c.args.table.now c.args.s.now c.args.cursor.at (length c.args.out.now)) (fitted_at_in_loop_i c))
 
-fitted : (c : After-fit_in-fits) → normal_told c.fit_in-fits.result ≡ map_read length (form c.args.table.now c.args.s.now c.args.cursor.at (length c.args.out.now))
+fitted : (c : After-fit_in-fits) → normal_told c.fit_in-fits.result ≡ map_read length
+    (form c.args.table.now c.args.s.now c.args.cursor.at (length c.args.out.now))
 fitted c =
     let a = c.args in
     c.fit_in-fits.ensures
@@ -68,7 +72,8 @@ fitted c =
     (c.judge_packed-judged.ensures
     ∙ ap (λ (cs : List D.Column). map_read (needs_of cs) (read_at (read_row cs) a.s.now a.cursor.at)) (sym (table_told [] a.table.now)))
 
-fitted_at_at_loop_i : (c : At-loop-i) → normal_told c.fit_in-fits.result ≡ map_read length (form c.args.table.now c.args.s.now c.args.cursor.at (length c.args.out.now))
+fitted_at_at_loop_i : (c : At-loop-i) → normal_told c.fit_in-fits.result ≡ map_read length
+    (form c.args.table.now c.args.s.now c.args.cursor.at (length c.args.out.now))
 fitted_at_at_loop_i c =
     let a = c.args in
     c.fit_in-fits.ensures
@@ -82,18 +87,24 @@ opened c = c.open_run-run.ensures
 
 copied : (c : At-loop-i) →
     let a = c.args in
-    Copied (table_made c.args.table.now) a.s.now a.cursor.at a.out.now (form c.args.table.now c.args.s.now c.args.cursor.at (length c.args.out.now)) c.loop-i.i c.loop-i.run c.loop-i.out
+    Copied (table_made c.args.table.now) a.s.now a.cursor.at a.out.now (form c.args.table.now c.args.s.now c.args.cursor.at (length c.args.out.now))
+    c.loop-i.i c.loop-i.run c.loop-i.out
 copied c = c.loop-i.invariant.2 c.args.cursor.at (fitted_at_at_loop_i c) (opened c)
 
-made : (c : In-loop-i) → (column_made (drop (16 * c.loop-i.i) c.args.table.now) no_name no_name no_name) ≡ get_or (table_made c.args.table.now) c.loop-i.i no_column
+made : (c : In-loop-i) → (column_made (drop (16 * c.loop-i.i) c.args.table.now) no_name no_name no_name) ≡ get_or (table_made c.args.table.now) c.loop-i.i
+    no_column
 made c = column_made_lem c.args.table.now c.loop-i.i (inside c)
 
 pub normal_at-run-requires : goal.normal_at-run-requires
 normal_at-run-requires c =
     let a = c.args in (
       column_there a.table.now c.loop-i.i (inside (goal.at.normal_at-run-requires c).In-loop-i),
-      copying_asks (table_made c.args.table.now) a.s.now a.cursor.at a.out.now (form c.args.table.now c.args.s.now c.args.cursor.at (length c.args.out.now)) c.loop-i.i c.loop-i.run c.loop-i.out (column_made (drop (16 * c.loop-i.i) c.args.table.now) no_name no_name no_name)
-          (less (goal.at.normal_at-run-requires c).In-loop-i (form c.args.table.now c.args.s.now c.args.cursor.at (length c.args.out.now)) (fitted (goal.at.normal_at-run-requires c).After-fit_in-fits)) (copied (goal.at.normal_at-run-requires c).At-loop-i) (made (goal.at.normal_at-run-requires c).In-loop-i),
+      copying_asks (table_made c.args.table.now) a.s.now a.cursor.at a.out.now
+          (form c.args.table.now c.args.s.now c.args.cursor.at (length c.args.out.now)) c.loop-i.i c.loop-i.run c.loop-i.out
+          (column_made (drop (16 * c.loop-i.i) c.args.table.now) no_name no_name no_name)
+          (less (goal.at.normal_at-run-requires c).In-loop-i (form c.args.table.now c.args.s.now c.args.cursor.at (length c.args.out.now))
+          (fitted (goal.at.normal_at-run-requires c).After-fit_in-fits)) (copied (goal.at.normal_at-run-requires c).At-loop-i)
+          (made (goal.at.normal_at-run-requires c).In-loop-i),
     )
 
 pub loop-i-preserved : goal.loop-i-preserved
@@ -105,7 +116,9 @@ loop-i-preserved c =
       λ at h e.
           let asked-at = form a.table.now a.s.now at (length a.out.now) in
           copying_next (table_made c.args.table.now) a.s.now at a.out.now asked-at c.loop-i.i c.loop-i.run c.normal_at-run.result c.loop-i.out
-          c.normal_at-run.new.out (column_made (drop (16 * c.loop-i.i) c.args.table.now) no_name no_name no_name) (less (goal.at.loop-i-preserved c).In-loop-i asked-at h) (c.loop-i.invariant.2 at h e) (made (goal.at.loop-i-preserved c).In-loop-i) same c.normal_at-run.ensures,
+          c.normal_at-run.new.out (column_made (drop (16 * c.loop-i.i) c.args.table.now) no_name no_name no_name)
+          (less (goal.at.loop-i-preserved c).In-loop-i asked-at h) (c.loop-i.invariant.2 at h e) (made (goal.at.loop-i-preserved c).In-loop-i) same
+          c.normal_at-run.ensures,
     )
 
 -- the turns, by a place at which the row was found
@@ -116,7 +129,8 @@ turned_at_after_loop_i c a e =
     c.turns-n.ensures
     ∙ (ap (λ (d : Read ℕ). turns_of d c.records.result) e ∙ ap (turns_of (map_read length a)) counted)
 
-fitted_at_after_loop_i : (c : After-loop-i) → normal_told c.fit_in-fits.result ≡ map_read length (form c.args.table.now c.args.s.now c.args.cursor.at (length c.args.out.now))
+fitted_at_after_loop_i : (c : After-loop-i) → normal_told c.fit_in-fits.result ≡ map_read length
+    (form c.args.table.now c.args.s.now c.args.cursor.at (length c.args.out.now))
 fitted_at_after_loop_i c =
     let a = c.args in
     c.fit_in-fits.ensures
@@ -130,32 +144,41 @@ opened_at_after_loop_i c = c.open_run-run.ensures
 
 copied_at_after_loop_i : (c : After-loop-i) →
     let a = c.args in
-    Copied (table_made c.args.table.now) a.s.now a.cursor.at a.out.now (form c.args.table.now c.args.s.now c.args.cursor.at (length c.args.out.now)) c.loop-i.i c.loop-i.run c.loop-i.out
+    Copied (table_made c.args.table.now) a.s.now a.cursor.at a.out.now (form c.args.table.now c.args.s.now c.args.cursor.at (length c.args.out.now))
+    c.loop-i.i c.loop-i.run c.loop-i.out
 copied_at_after_loop_i c = c.loop-i.invariant.2 c.args.cursor.at (fitted_at_after_loop_i c) (opened_at_after_loop_i c)
 
 -- behind the last turn
 last : (c : After-loop-i) →
     let a = c.args in
-    Copied (table_made c.args.table.now) a.s.now a.cursor.at a.out.now (form c.args.table.now c.args.s.now c.args.cursor.at (length c.args.out.now)) (turns_of (map_read length (form c.args.table.now c.args.s.now c.args.cursor.at (length c.args.out.now))) (length (table_made c.args.table.now))) c.loop-i.run
+    Copied (table_made c.args.table.now) a.s.now a.cursor.at a.out.now (form c.args.table.now c.args.s.now c.args.cursor.at (length c.args.out.now))
+    (turns_of (map_read length (form c.args.table.now c.args.s.now c.args.cursor.at (length c.args.out.now))) (length (table_made c.args.table.now)))
+    c.loop-i.run
     c.loop-i.out
 last c =
     let a = c.args in
-    subst (λ (i : ℕ). Copied (table_made c.args.table.now) a.s.now a.cursor.at a.out.now (form c.args.table.now c.args.s.now c.args.cursor.at (length c.args.out.now)) i c.loop-i.run c.loop-i.out)
-    (le_antisymm c.loop-i.invariant.0 c.loop-i-test.false ∙ turned_at_after_loop_i c (form c.args.table.now c.args.s.now c.args.cursor.at (length c.args.out.now)) (fitted_at_after_loop_i c)) (copied_at_after_loop_i c)
+    subst (λ (i : ℕ). Copied (table_made c.args.table.now) a.s.now a.cursor.at a.out.now
+    (form c.args.table.now c.args.s.now c.args.cursor.at (length c.args.out.now)) i c.loop-i.run c.loop-i.out)
+    (le_antisymm c.loop-i.invariant.0 c.loop-i-test.false ∙ turned_at_after_loop_i c
+    (form c.args.table.now c.args.s.now c.args.cursor.at (length c.args.out.now)) (fitted_at_after_loop_i c)) (copied_at_after_loop_i c)
 
 pub close_run-requires : goal.close_run-requires
 close_run-requires c =
     let a = c.args in
-    copying_closes (table_made c.args.table.now) a.s.now a.cursor.at a.out.now (form c.args.table.now c.args.s.now c.args.cursor.at (length c.args.out.now)) c.loop-i.run c.loop-i.out (last (goal.at.close_run-requires c).After-loop-i)
+    copying_closes (table_made c.args.table.now) a.s.now a.cursor.at a.out.now
+    (form c.args.table.now c.args.s.now c.args.cursor.at (length c.args.out.now)) c.loop-i.run c.loop-i.out
+    (last (goal.at.close_run-requires c).After-loop-i)
 
 pub returns : goal.returns
 returns c =
     let a = c.args in
-    let told : (form c.args.table.now c.args.s.now c.args.cursor.at (length c.args.out.now)) ≡ asked (table_columns a.table.now) a.s.now a.cursor.at (length a.out.now) =
+    let told : (form c.args.table.now c.args.s.now c.args.cursor.at (length c.args.out.now)) ≡ asked (table_columns a.table.now) a.s.now a.cursor.at
+    (length a.out.now) =
     ap (λ (cs : List D.Column). asked cs a.s.now a.cursor.at (length a.out.now)) (table_told [] a.table.now) in
     record {
       answer = fitted (goal.at.returns c).After-fit_in-fits ∙ ap (map_read length) told;
-      room = copying_ends (table_made c.args.table.now) a.s.now a.cursor.at a.out.now (form c.args.table.now c.args.s.now c.args.cursor.at (length c.args.out.now)) c.loop-i.run c.loop-i.out c.close_run.new.out
+      room = copying_ends (table_made c.args.table.now) a.s.now a.cursor.at a.out.now
+          (form c.args.table.now c.args.s.now c.args.cursor.at (length c.args.out.now)) c.loop-i.run c.loop-i.out c.close_run.new.out
           (last (goal.at.returns c).After-loop-i) c.close_run.ensures.1
           ∙ ap (λ (r : Read (List ℕ)). room_after_read (λ (bytes : List ℕ). bytes) r a.out.now) told;
     }

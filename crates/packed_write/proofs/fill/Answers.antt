@@ -57,7 +57,8 @@ asked c =
     let a = c.args in
     row a.out.now a.table.now a.values.now a.buffer.now
 
-column_is : (c : In-loop-i) → (column_made (drop (16 * c.loop-i.i) c.args.table.now) no_name no_name no_name) ≡ get_or (table_made c.args.table.now) c.loop-i.i no_column
+column_is : (c : In-loop-i) → (column_made (drop (16 * c.loop-i.i) c.args.table.now) no_name no_name no_name) ≡ get_or (table_made c.args.table.now)
+    c.loop-i.i no_column
 column_is c = column_made_lem c.args.table.now c.loop-i.i (inside c).0
 
 value_is : (c : In-loop-i) → (given_made (drop (3 * c.loop-i.i) c.args.values.now)) ≡ get_or (givens_made c.args.values.now) c.loop-i.i no_value
@@ -69,8 +70,11 @@ fill_at-at-requires c =
     let i = c.loop-i.i in (
       column_there a.table.now i (inside (goal.at.fill_at-at-requires c).In-loop-i).0,
       whole a.values.now i (value-less (goal.at.fill_at-at-requires c).In-loop-i) c.requires.0,
-      filling_asks_of a.buffer.now (table_made c.args.table.now) (givens_made c.args.values.now) a.out.now (asked (goal.at.fill_at-at-requires c).At-loop-i) i c.loop-i.at c.loop-i.out
-          (column_made (drop (16 * c.loop-i.i) c.args.table.now) no_name no_name no_name) (given_made (drop (3 * c.loop-i.i) c.args.values.now)) refl (less (goal.at.fill_at-at-requires c).In-loop-i) c.loop-i.invariant.2 (column_is (goal.at.fill_at-at-requires c).In-loop-i) (value_is (goal.at.fill_at-at-requires c).In-loop-i),
+      filling_asks_of a.buffer.now (table_made c.args.table.now) (givens_made c.args.values.now) a.out.now
+          (asked (goal.at.fill_at-at-requires c).At-loop-i) i c.loop-i.at c.loop-i.out
+          (column_made (drop (16 * c.loop-i.i) c.args.table.now) no_name no_name no_name) (given_made (drop (3 * c.loop-i.i) c.args.values.now)) refl
+          (less (goal.at.fill_at-at-requires c).In-loop-i) c.loop-i.invariant.2 (column_is (goal.at.fill_at-at-requires c).In-loop-i)
+          (value_is (goal.at.fill_at-at-requires c).In-loop-i),
     )
 
 pub loop-i-preserved : goal.loop-i-preserved
@@ -78,8 +82,10 @@ loop-i-preserved c =
     let a = c.args in (
       omega (arith, c.loop-i-test.true),
       c.fill_at-at.auto.out ∙ c.loop-i.invariant.1,
-      filling_next a.buffer.now (table_made c.args.table.now) (givens_made c.args.values.now) a.out.now (asked (goal.at.loop-i-preserved c).At-loop-i) c.loop-i.i c.loop-i.at c.fill_at-at.result
-          c.loop-i.out c.fill_at-at.new.out (column_made (drop (16 * c.loop-i.i) c.args.table.now) no_name no_name no_name) (given_made (drop (3 * c.loop-i.i) c.args.values.now)) refl (less (goal.at.loop-i-preserved c).In-loop-i) c.loop-i.invariant.2
+      filling_next a.buffer.now (table_made c.args.table.now) (givens_made c.args.values.now) a.out.now (asked (goal.at.loop-i-preserved c).At-loop-i)
+          c.loop-i.i c.loop-i.at c.fill_at-at.result
+          c.loop-i.out c.fill_at-at.new.out (column_made (drop (16 * c.loop-i.i) c.args.table.now) no_name no_name no_name)
+          (given_made (drop (3 * c.loop-i.i) c.args.values.now)) refl (less (goal.at.loop-i-preserved c).In-loop-i) c.loop-i.invariant.2
           (column_is (goal.at.loop-i-preserved c).In-loop-i) (value_is (goal.at.loop-i-preserved c).In-loop-i) c.fill_at-at.ensures.0 c.fill_at-at.ensures.1,
     )
 
@@ -97,6 +103,8 @@ returns c =
     let last = le_antisymm c.loop-i.invariant.0 c.loop-i-test.false ∙ turned (goal.at.returns c).At-loop-i in
     let out = a.out.now in
     let told = ap (λ (r : Answer (List ℕ)). room_after (fitted r (length out)) out) (row_told_lem a.buffer.now a.table.now a.values.now) in
-    filling_ends a.buffer.now (table_made c.args.table.now) (givens_made c.args.values.now) a.out.now (asked (goal.at.returns c).At-loop-i) c.loop-i.at c.loop-i.out refl
-    (subst (λ (i : ℕ). Filled a.buffer.now (table_made c.args.table.now) (givens_made c.args.values.now) a.out.now (asked (goal.at.returns c).At-loop-i) i c.loop-i.at c.loop-i.out) last
+    filling_ends a.buffer.now (table_made c.args.table.now) (givens_made c.args.values.now) a.out.now (asked (goal.at.returns c).At-loop-i) c.loop-i.at
+    c.loop-i.out refl
+    (subst (λ (i : ℕ). Filled a.buffer.now (table_made c.args.table.now) (givens_made c.args.values.now) a.out.now (asked (goal.at.returns c).At-loop-i) i
+    c.loop-i.at c.loop-i.out) last
     c.loop-i.invariant.2) ∙ told

@@ -35,7 +35,8 @@ returns-then-n-ne0 c =
     let d = (column_of (drop (16 * c.args.i) c.args.table.now) no_names) in (
       λ b.
           rw (plain_told b (drop (16 * c.args.i) c.args.table.now))
-          (judged_width d a.s.now a.row.next.at (there (goal.at.returns-then-n-ne0 c).Then-n-ne0).0 c.width_at-n.result c.requires.1.0 (there (goal.at.returns-then-n-ne0 c).Then-n-ne0).1
+          (judged_width d a.s.now a.row.next.at (there (goal.at.returns-then-n-ne0 c).Then-n-ne0).0 c.width_at-n.result c.requires.1.0
+          (there (goal.at.returns-then-n-ne0 c).Then-n-ne0).1
           (record { joined = a.row.joined; normal = a.row.normal })),
       (inside (goal.at.returns-then-n-ne0 c).Then-n-ne0, omega (arith, c.requires.1.1), omega (arith, c.requires.1.2)),
     )

@@ -30,13 +30,15 @@ overflow_add-result c =
     let a = c.args in
     let rest = drop a.place.cursor.at a.s.now in
     let v = value_in c.plain_at-p.result rest in
-    let inside = ends-inside (column_of (drop (16 * c.args.i) c.args.table.now) no_names) a.s.now a.place.cursor.at v c.width_in-n.result c.requires.2 (there (goal.at.overflow_add-result c).Then-n-ne0).0 in
+    let inside = ends-inside (column_of (drop (16 * c.args.i) c.args.table.now) no_names) a.s.now a.place.cursor.at v c.width_in-n.result c.requires.2
+    (there (goal.at.overflow_add-result c).Then-n-ne0).0 in
     record { fits = omega (arith, inside, c.well_formed) }
 
 pub returns-then-n-ne0 : goal.returns-then-n-ne0
 returns-then-n-ne0 c =
     let a = c.args in
-    taken-width (column_of (drop (16 * c.args.i) c.args.table.now) no_names) a.s.now (place_told a.place) c.plain_at-p.result c.width_in-n.result c.requires.2 (there (goal.at.returns-then-n-ne0 c).Then-n-ne0).0
+    taken-width (column_of (drop (16 * c.args.i) c.args.table.now) no_names) a.s.now (place_told a.place) c.plain_at-p.result c.width_in-n.result
+    c.requires.2 (there (goal.at.returns-then-n-ne0 c).Then-n-ne0).0
     (3 * a.i) a.values.now a.out.now _ (rw c.slot_in.ensures at c.store.ensures)
 
 -- the column that is made tells the record's

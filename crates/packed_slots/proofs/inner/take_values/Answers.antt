@@ -52,7 +52,8 @@ counted_at_in_loop_i c = c.records-n.ensures ∙ sym (columns-counted c.args.tab
 less : (c : In-loop-i) → c.loop-i.i < length (table_made c.args.table.now)
 less c = subst (λ (n : ℕ). c.loop-i.i < n) (counted_at_in_loop_i c) c.loop-i-test.true
 
-told : (c : In-loop-i) → (column_of (drop (16 * c.loop-i.i) c.args.table.now) no_names) ≡ column_told [] (get_or (table_made c.args.table.now) c.loop-i.i no_column)
+told : (c : In-loop-i) → (column_of (drop (16 * c.loop-i.i) c.args.table.now) no_names) ≡ column_told []
+    (get_or (table_made c.args.table.now) c.loop-i.i no_column)
 told c =
     let t = c.args.table.now in
     let i = c.loop-i.i in
@@ -67,9 +68,15 @@ take_at-place-requires c =
     let bs = c.loop-i.out in
     let z = c.loop-i.invariant.3 in (
       column_there a.table.now i (less (goal.at.take_at-place-requires c).In-loop-i),
-      place_for (table_made c.args.table.now) a.s.now a.cursor.at a.values.now a.out.now i p vs bs (column_of (drop (16 * c.loop-i.i) c.args.table.now) no_names) (less (goal.at.take_at-place-requires c).In-loop-i) z (told (goal.at.take_at-place-requires c).In-loop-i),
-      inside (table_made c.args.table.now) a.s.now a.cursor.at a.values.now a.out.now i p vs bs (column_of (drop (16 * c.loop-i.i) c.args.table.now) no_names) (less (goal.at.take_at-place-requires c).In-loop-i) z (told (goal.at.take_at-place-requires c).In-loop-i),
-      room_for (table_made c.args.table.now) a.s.now a.cursor.at a.values.now a.out.now i p vs bs (column_of (drop (16 * c.loop-i.i) c.args.table.now) no_names) (less (goal.at.take_at-place-requires c).In-loop-i) z (told (goal.at.take_at-place-requires c).In-loop-i),
+      place_for (table_made c.args.table.now) a.s.now a.cursor.at a.values.now a.out.now i p vs bs
+          (column_of (drop (16 * c.loop-i.i) c.args.table.now) no_names) (less (goal.at.take_at-place-requires c).In-loop-i) z
+          (told (goal.at.take_at-place-requires c).In-loop-i),
+      inside (table_made c.args.table.now) a.s.now a.cursor.at a.values.now a.out.now i p vs bs
+          (column_of (drop (16 * c.loop-i.i) c.args.table.now) no_names) (less (goal.at.take_at-place-requires c).In-loop-i) z
+          (told (goal.at.take_at-place-requires c).In-loop-i),
+      room_for (table_made c.args.table.now) a.s.now a.cursor.at a.values.now a.out.now i p vs bs
+          (column_of (drop (16 * c.loop-i.i) c.args.table.now) no_names) (less (goal.at.take_at-place-requires c).In-loop-i) z
+          (told (goal.at.take_at-place-requires c).In-loop-i),
     )
 
 pub loop-i-preserved : goal.loop-i-preserved
@@ -79,7 +86,8 @@ loop-i-preserved c =
       c.take_at-place.auto.values ∙ c.loop-i.invariant.1,
       c.take_at-place.auto.out ∙ c.loop-i.invariant.2,
       slotting_next (table_made c.args.table.now) a.s.now a.cursor.at a.values.now a.out.now c.loop-i.i (place_told c.loop-i.place)
-          c.loop-i.values c.loop-i.out (column_of (drop (16 * c.loop-i.i) c.args.table.now) no_names) (less (goal.at.loop-i-preserved c).In-loop-i) c.loop-i.invariant.3 (told (goal.at.loop-i-preserved c).In-loop-i) (place_told c.take_at-place.result)
+          c.loop-i.values c.loop-i.out (column_of (drop (16 * c.loop-i.i) c.args.table.now) no_names) (less (goal.at.loop-i-preserved c).In-loop-i)
+          c.loop-i.invariant.3 (told (goal.at.loop-i-preserved c).In-loop-i) (place_told c.take_at-place.result)
           c.take_at-place.new.values c.take_at-place.new.out c.take_at-place.ensures,
     )
 
