@@ -22,7 +22,15 @@ found c =
 pub overflow_add-at : goal.overflow_add-at
 overflow_add-at c =
     let a = c.args in
-    record { fits = omega (arith, (found (goal.at.overflow_add-at c).After-read_fields-f c.if-f-gt0.true).0, length-drop a.at a.bytes.now, c.if-bytes-at.false, c.well_formed) }
+    record {
+      fits = omega (
+        arith,
+        (found (goal.at.overflow_add-at c).After-read_fields-f c.if-f-gt0.true).0,
+        length-drop a.at a.bytes.now,
+        c.if-bytes-at.false,
+        c.well_formed,
+      );
+    }
 
 pub returns-then-f-gt0 : goal.returns-then-f-gt0
 returns-then-f-gt0 c =
