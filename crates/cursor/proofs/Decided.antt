@@ -58,8 +58,18 @@ use Rattle.cursor.specs.declared.WalkOpened.{WalkOpened}
 use Rattle.cursor.specs.declared.WalkOpened.TheVariants as O
 use Rattle.cursor.specs.declared.Joined.{Joined}
 use Rattle.cursor.specs.declared.Joined.TheVariants as J
-use Rattle.cursor.specs.Told.{byte_told, number_told, guid_told, header_told, column_read_told, NamesFrom, opened_told, joined_told, value_read_told,
-    CanonicalRead}
+use Rattle.cursor.specs.Told.{
+  byte_told,
+  number_told,
+  guid_told,
+  header_told,
+  column_read_told,
+  NamesFrom,
+  opened_told,
+  joined_told,
+  value_read_told,
+  CanonicalRead,
+}
 
 -- an answer of the layer below that is decided decides the cursor's
 lifted : {A B : Type 0} (down : A → B) (up : B → A) → Undoes down up → (x y : A) → down x ≡ down y → x ≡ y

@@ -106,7 +106,7 @@ module _ (n : ℕ) (k : ContentKind) where
       where
         go : (b : Bool) → eqb n plp_mark ≡ b →
             read_content k n (encode_in n (content k) (content_value k o) ++ rest) ≡ took (content_value k o)
-                (length (encode_in n (content k) (content_value k o)))
+            (length (encode_in n (content k) (content_value k o)))
         go true e = rw (encode_plp k n o e) (plp_again e o rest (rw e at f))
         go false e = rw (encode-short k n o e, e) (short_again i e o rest (rw e at f))
 

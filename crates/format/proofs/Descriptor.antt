@@ -11,7 +11,7 @@ use mathlib.Core.Path.{◌≡◌, refl, sym, ap, ◌∙◌}
 use mathlib.Core.List.{List, [], ◌∷◌, ◌++◌, append-nil}
 use mathlib.Core.Bool.{Bool, true, false, not}
 use mathlib.Core.Option.{Option, none, some}
-use Prim.Native.Nat.{ℕ, ◌+◌, ◌*◌, ◌/◌, ◌%◌, ◌^◌, ◌<◌}
+use Prim.Native.Nat.{ℕ, ◌*◌, ◌/◌, ◌%◌, ◌^◌, ◌<◌}
 use native.Mathlib.Omega.{arith}
 use lib.ListN.{length, take, drop}
 use lib.Dec.{ltb, eqb}
@@ -81,7 +81,7 @@ typed_again : (t : TypeId) (x rest : List ℕ) (c : Column) → read_fields t (x
 unfolding read_column read_byte
 typed_again t x rest c q =
     then_again read_byte read_type (type_byte t ∷ []) x rest (type_byte t) c (λ more. refl)
-        (ap (λ (a : Answer TypeId). read_typed a (x ++ rest)) (type_again t) ∙ q)
+    (ap (λ (a : Answer TypeId). read_typed a (x ++ rest)) (type_again t) ∙ q)
 
 -- the rule, part by part
 record Kept (t : TypeId) (n p x : ℕ) (l : Option Collation) (m : Option Schema) : Type 0 where

@@ -6,7 +6,7 @@ use mathlib.Core.Path.{◌≡◌, refl, sym, ap, ◌∙◌}
 use mathlib.Core.List.{List, [], ◌∷◌, ◌++◌}
 use mathlib.Core.Bool.{Bool, true, false, not}
 use mathlib.Core.Option.{Option, none, some}
-use Prim.Native.Nat.{ℕ, ◌+◌, ◌*◌, ◌/◌, ◌%◌, ◌^◌, ◌<◌}
+use Prim.Native.Nat.{ℕ, ◌*◌, ◌/◌, ◌%◌, ◌^◌, ◌<◌}
 use native.Mathlib.Omega.{arith}
 use lib.ListN.{length, take, drop}
 use lib.Seq.{take-add, length-take-le}
@@ -103,41 +103,41 @@ byte_len_cut f s c k b h =
     rw i (digits_cut f t.0 (drop t.1 s) c t.2 u.1 (bytes_drop t.1 s b) t.4)
 
 module _ (t : TypeId) (w : ℕ) (f : Form t w) (none-digits : has_digits t ≡ false) (n : ℕ) (s : List ℕ) (c : Column) (k : ℕ) (h : n < 256 ^ w) (b : Bytes s)
-    where
-  no_collation_cut : has_collation t ≡ false → took (plain t n) 0 ≡ took c k → write_column c ≡ gives (type_byte t ∷ (low_bytes w n ++ take k s))
-  no_collation_cut e q =
-      let r = same_took (plain t n) c 0 k q in
-      let d : digits_fit (has_digits t) 0 0 ≡ true = rw none-digits in
-      let l : collation_fits (has_collation t) none ≡ true = rw e in
-      let z : type_byte t ∷ (low_bytes w n ++ (digits_bytes (has_digits t) 0 0 ++ [])) ≡ type_byte t ∷ (low_bytes w n ++ []) = rw none-digits in
-      rw (r.0, r.1) (form-written t w f n 0 0 none h d l ∙ ap gives z)
+  where
+    no_collation_cut : has_collation t ≡ false → took (plain t n) 0 ≡ took c k → write_column c ≡ gives (type_byte t ∷ (low_bytes w n ++ take k s))
+    no_collation_cut e q =
+        let r = same_took (plain t n) c 0 k q in
+        let d : digits_fit (has_digits t) 0 0 ≡ true = rw none-digits in
+        let l : collation_fits (has_collation t) none ≡ true = rw e in
+        let z : type_byte t ∷ (low_bytes w n ++ (digits_bytes (has_digits t) 0 0 ++ [])) ≡ type_byte t ∷ (low_bytes w n ++ []) = rw none-digits in
+        rw (r.0, r.1) (form-written t w f n 0 0 none h d l ∙ ap gives z)
 
-  collation_cut : has_collation t ≡ true → then_read (read_low 4) (read_sort t n) s ≡ took c k → write_column c
-      ≡ gives (type_byte t ∷ (low_bytes w n ++ take k s))
-  collation_cut e q =
-      let g = then_cut (read_low 4) (read_sort t n) s c k q in
-      let info = g.0 in
-      let u = low_cut 4 s info g.1 b g.3 in
-      let v = map-took (with_sort t n info) (read_byte (drop g.1 s)) c g.2 g.4 in
-      let sort = v.0 in
-      let y = byte_cut (drop g.1 s) sort g.2 (bytes_drop g.1 s b) v.1 in
-      let d : digits_fit (has_digits t) 0 0 ≡ true = rw none-digits in
-      let o : Option Collation = some (record { info = info; sort = sort }) in
-      let l : collation_fits (has_collation t) (some (record {
-        info =
-            info;
-        sort = sort;
-      })) ≡ true = rw (e, lt-ltb info (256 ^ 4) u.1, lt-ltb sort 256 y.1) in
-      let r : c ≡ with_sort t n info sort = sym v.2 in
-      let i : take k s ≡ low_bytes 4 info ++ (sort ∷ []) = rw (g.5, u.0, y.0) in
-      let z :
-      type_byte t ∷ (low_bytes w n ++ (digits_bytes (has_digits t) 0 0 ++ (low_bytes 4 info ++ (sort ∷ []))))
-      ≡ type_byte t ∷ (low_bytes w n ++ (low_bytes 4 info ++ (sort ∷ []))) =
-      rw none-digits in
-      rw (r, i) (form-written t w f n 0 0 o h d l ∙ ap gives z)
+    collation_cut : has_collation t ≡ true → then_read (read_low 4) (read_sort t n) s ≡ took c k → write_column c
+        ≡ gives (type_byte t ∷ (low_bytes w n ++ take k s))
+    collation_cut e q =
+        let g = then_cut (read_low 4) (read_sort t n) s c k q in
+        let info = g.0 in
+        let u = low_cut 4 s info g.1 b g.3 in
+        let v = map-took (with_sort t n info) (read_byte (drop g.1 s)) c g.2 g.4 in
+        let sort = v.0 in
+        let y = byte_cut (drop g.1 s) sort g.2 (bytes_drop g.1 s b) v.1 in
+        let d : digits_fit (has_digits t) 0 0 ≡ true = rw none-digits in
+        let o : Option Collation = some (record { info = info; sort = sort }) in
+        let l : collation_fits (has_collation t) (some (record {
+          info =
+              info;
+          sort = sort;
+        })) ≡ true = rw (e, lt-ltb info (256 ^ 4) u.1, lt-ltb sort 256 y.1) in
+        let r : c ≡ with_sort t n info sort = sym v.2 in
+        let i : take k s ≡ low_bytes 4 info ++ (sort ∷ []) = rw (g.5, u.0, y.0) in
+        let z :
+        type_byte t ∷ (low_bytes w n ++ (digits_bytes (has_digits t) 0 0 ++ (low_bytes 4 info ++ (sort ∷ []))))
+        ≡ type_byte t ∷ (low_bytes w n ++ (low_bytes 4 info ++ (sort ∷ []))) =
+        rw none-digits in
+        rw (r, i) (form-written t w f n 0 0 o h d l ∙ ap gives z)
 
-  behind-length_cut : read_collation t n s ≡ took c k → write_column c ≡ gives (type_byte t ∷ (low_bytes w n ++ take k s))
-  behind-length_cut = split (has_collation t) collation_cut no_collation_cut
+    behind-length_cut : read_collation t n s ≡ took c k → write_column c ≡ gives (type_byte t ∷ (low_bytes w n ++ take k s))
+    behind-length_cut = split (has_collation t) collation_cut no_collation_cut
 
 wide_cut : (t : TypeId) (w : ℕ) → Form t w → has_digits t ≡ false → (s : List ℕ) (c : Column) (k : ℕ) → Bytes s →
     then_read (read_low w) (read_collation t) s ≡ took c k → write_column c ≡ gives (type_byte t ∷ take k s)

@@ -206,7 +206,7 @@ module _ (d : Column) (ds : List Column) (s : List ℕ) (at : ℕ) (vs : List Va
   -- the first column, and the others behind it
   pub first_then : read_at (read_values (d ∷ ds)) s at ≡ took vs next
       → (v : Value) × (m : ℕ) × (rest : List Value) × (read_at (read_value d) s at ≡ took v m) × (read_at (read_values ds) s m ≡ took rest next)
-          × (v ∷ rest ≡ vs)
+      × (v ∷ rest ≡ vs)
   unfolding read_values
   first_then h =
       let p = took_at (read_values (d ∷ ds)) s at vs next h in

@@ -139,6 +139,6 @@ marked =
 pub all_marked : All marked
 unfolding then_read signed unsigned read_bytes read_byte read_low guid_order char8 utf16 scalars spelled text_in read_header write_header write_prelogin
     type_of read_column keeps_rule column_bytes write_column scalar_of scalar_bytes read_scalar plp_bound read_plp_head end_of chunk_of take_head walk_from
-        join_from
+    join_from
     read_plp plp_bytes read_value encode write_value read_values read_row encode_row normal
 all_marked = (refl, (refl, (refl, (refl, (refl, (refl, (refl, (refl, (refl, (refl, (refl, (refl, (refl, (refl, (refl, (refl, (refl, (refl, tt))))))))))))))))))

@@ -1,26 +1,26 @@
 -- Numbers and choices of document 01 that no round trip would miss, each as a law in the document's own words: who moves one of them in a definition meets
 -- its sentence here. The numbers stand as they stand in the document, not by the definitions' names.
 -- Each holds by computing, or by one test whose outcome is given. Assumes nothing.
-use mathlib.Core.Path.{◌≡◌, refl, ap, ◌∙◌}
+use mathlib.Core.Path.{◌≡◌, refl}
 use mathlib.Core.List.{List, [], ◌∷◌, ◌++◌, append-nil}
 use mathlib.Core.Bool.{Bool, true, false}
 use mathlib.Core.Option.{Option, some}
 use Prim.Native.Nat.{ℕ, zero, suc, ◌≤◌, ◌<◌}
 use native.Mathlib.Omega.{arith}
 use borrow.Author.Tests.{lt-ltb, le-ltb, le-leb, lt-leb, ltb-false}
-use lib.Dec.{ltb, leb}
+use lib.Dec.{ltb}
 use lib.ListN.{length, take, drop, length-append, length-drop}
 use lib.Seq.{take-append_seam, drop-append_seam}
 use Rattle.lists.specs.Pick.{pick}
-use Rattle.format.specs.Answer.{Refusal, missing, unknown, kind, room, long, rule, not_carried, sequence, not_text, number, Answer, gives}
-use Rattle.format.specs.Answer.{refuses, Read, took, stops, Part, inside, fitted, room_after, fitted_read, room_after_read, then_read}
+use Rattle.format.specs.Answer.{Refusal, missing, unknown, kind, room, long, rule, not_carried, sequence, not_text, number, gives}
+use Rattle.format.specs.Answer.{refuses, Read, took, stops, inside, fitted_read, room_after_read, then_read}
 use Rattle.format.specs.Number.{low_bytes}
 use Rattle.format.specs.Text.{text_in}
 use Rattle.format.specs.Header.{packet_types, packet_statuses, listed}
-use Rattle.format.specs.Descriptor.{TypeId, xml, types, Collation, Schema, Column, collation_fits, schema_fits, name_fits}
-use Rattle.format.specs.Plp.{Walk, opened, plp_bytes, plp_bound}
+use Rattle.format.specs.Descriptor.{TypeId, xml, types, Schema, Column, collation_fits, schema_fits, name_fits}
+use Rattle.format.specs.Plp.{opened, plp_bytes}
 use Rattle.format.specs.Value.{Value, Given, copied_out, is_plp, write_untyped, untyped_bound}
-use Rattle.format.specs.Row.{Capture, read_values, read_row, copied_out_row, write_values, write_row, read_columns, read_captured, read_counted}
+use Rattle.format.specs.Row.{read_values, read_row, copied_out_row, write_row, read_columns, read_captured, read_counted}
 
 -- ---- the refusals
 

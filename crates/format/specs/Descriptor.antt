@@ -1,5 +1,5 @@
 -- TYPE_INFO both ways: document 01, "TYPE_INFO"; MS-TDS, "Data Type Definitions" and the rule TYPE_INFO.
-use Rattle.std.specs.Prelude.{ℕ, ◌+◌, ◌*◌, ◌/◌, ◌%◌, ◌^◌, List, [], ◌∷◌, ◌++◌, Bool, true, false, not, length, ltb, eqb}
+use Rattle.std.specs.Prelude.{ℕ, ◌*◌, ◌/◌, ◌%◌, ◌^◌, List, [], ◌∷◌, ◌++◌, Bool, true, false, not, length, ltb, eqb}
 use Rattle.std.proofs.Math.Option.{Option, none, some}
 use Rattle.lists.specs.Pick.{pick}
 use Rattle.format.specs.Answer.{Answer, gives, refuses, Read, took, stops, unknown, rule, not_carried, refuse_if, then_read, map_read, Part, inside, outside}
@@ -115,7 +115,7 @@ type_byte ss_variant = 0x62
 abbrev pub types : List TypeId
 types =
     fixed_len FixedLen.null ∷ fixed_len FixedLen.int1 ∷ fixed_len FixedLen.bit ∷ fixed_len FixedLen.int2 ∷ fixed_len FixedLen.int4 ∷ fixed_len
-        FixedLen.datetime4
+    FixedLen.datetime4
     ∷ fixed_len FixedLen.float4 ∷ fixed_len FixedLen.money ∷ fixed_len FixedLen.datetime ∷ fixed_len FixedLen.float8
     ∷ fixed_len FixedLen.money4 ∷ fixed_len FixedLen.int8
     ∷ byte_len ByteLen.guid ∷ byte_len ByteLen.intn ∷ byte_len ByteLen.bitn ∷ byte_len ByteLen.decimaln ∷ byte_len ByteLen.numericn ∷ byte_len ByteLen.floatn

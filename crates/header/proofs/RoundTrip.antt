@@ -5,12 +5,11 @@
 use mathlib.Core.Path.{◌≡◌, refl, ap, ◌∙◌}
 use mathlib.Core.List.{List, [], ◌∷◌, ◌++◌}
 use mathlib.Core.Bool.{true}
-use Prim.Native.Nat.{ℕ, zero, suc, ◌+◌, ◌<◌, ◌≤◌, ◌^◌}
+use Prim.Native.Nat.{ℕ, zero, suc, ◌<◌, ◌≤◌, ◌^◌}
 use native.Mathlib.Omega.{arith}
 use lib.ListN.{length, take}
 use Rattle.format.specs.Answer.{took}
 use Rattle.format.specs.Number.{high_nat, high_bytes}
-use Rattle.format.specs.Header as H
 use Rattle.format.specs.Header.{listed, packet_types, packet_statuses, header_of, header_bytes, read_header}
 use Rattle.format.proofs.Number.{Bytes, high_back, high_forth}
 use Rattle.header.specs.declared.PacketType.{PacketType}

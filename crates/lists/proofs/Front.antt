@@ -1,13 +1,13 @@
 -- Writing one list after another at the front of a room: the laws that a writing loop needs.
 -- Assumes nothing.
-use Prim.Native.Nat.{ℕ, suc, ◌+◌, ◌-◌, ◌≤◌, ◌<◌}
+use Prim.Native.Nat.{ℕ, suc, ◌+◌, ◌≤◌, ◌<◌}
 use mathlib.Core.Path.{◌≡◌, refl, sym, ap, ◌∙◌}
 use mathlib.Core.List.{List, [], ◌∷◌, ◌++◌, append_assoc}
 use native.Mathlib.Omega.{arith}
 use native.Mathlib.Nat.{add-zero, zero-add, add-suc, suc-add}
 use native.Mathlib.Numerals.{add-one}
-use lib.ListN.{length, get_or, set, take, drop, length-append, length-take, length-drop}
-use lib.Seq.{set_split, set_at, drop-cons, take-suc, drop-append-add, take-add, drop-drop, take_at, drop_at, length-take-le, take-append_seam}
+use lib.ListN.{length, get_or, set, take, drop, length-append, length-drop}
+use lib.Seq.{set_at, drop-cons, take-suc, take-add, drop-drop, take_at, drop_at, length-take-le, take-append_seam}
 use lib.Seq.{drop-append_seam, take-length, sets, sets-eq}
 use Rattle.lists.specs.Put.{put_at, front}
 

@@ -55,7 +55,7 @@ module _ (b : List ℕ) where
       let l : length (columns_told b ys) ≡ length (columns_told [] ys) = length-map ys (column_told b) ∙ sym (length-map ys (column_told [])) in
       ap {B = List ℕ → Read (List Value)} (λ (k : ℕ) (s : List ℕ). stop_if (ltb max_columns k) rule (read_values (columns_told b ys) s)) l
       ∙ ap {B = List ℕ → Read (List Value)} (λ (r : List ℕ → Read (List Value)) (s : List ℕ). stop_if (ltb max_columns (length (columns_told [] ys))) rule
-          (r s))
+      (r s))
       (same_values ys)
 
   pub same_encode : (ys : List Column) (vs : List Value) → encode_row (columns_told b ys) vs ≡ encode_row (columns_told [] ys) vs

@@ -51,7 +51,7 @@ module _ (s r : List ℕ) (a b c : Name) where
     where
       go : (k : Bool)
           → column_told s (pick k (typed_made (D.type_of (get_or r 0 0)) r a b c) broken_made) ≡ pick k (typed_as (D.type_of (get_or r 0 0)) r names)
-              broken_column
+          broken_column
       go true = typed (D.type_of (get_or r 0 0))
       go false = refl
 

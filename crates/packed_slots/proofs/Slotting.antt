@@ -141,86 +141,86 @@ module _ (ys : List Column) (s : List ℕ) (from : ℕ) (values₀ out₀ : List
   -- ---- one turn
 
   module _ (i : ℕ) (p : Place) (vs bs : List ℕ) (d : D.Column) (l : i < length ys) (z : Slotted i p vs bs) (e : d ≡ column_told [] (get_or ys i no_column))
-      where
-    abbrev ds : List D.Column
-    ds = left (i + 1)
+    where
+      abbrev ds : List D.Column
+      ds = left (i + 1)
 
-    is : left i ≡ d ∷ ds
-    is = ap (columns_told []) (left_at no_column i ys l) ∙ ap (λ (x : D.Column). x ∷ ds) (sym e)
+      is : left i ≡ d ∷ ds
+      is = ap (columns_told []) (left_at no_column i ys l) ∙ ap (λ (x : D.Column). x ∷ ds) (sym e)
 
-    -- the value, and what the others copy behind it
-    record Next : Type 0 where
-      pub value : Value
-      pub behind : ℕ
-      pub others : List Value
-      pub read : read_at (read_value d) s p.at ≡ took value behind
-      pub reads : read_at (read_values ds) s behind ≡ took others z.next
-      pub copies : drop p.copied joined ≡ copied_out d value ++ copied_out_row ds others
+      -- the value, and what the others copy behind it
+      record Next : Type 0 where
+        pub value : Value
+        pub behind : ℕ
+        pub others : List Value
+        pub read : read_at (read_value d) s p.at ≡ took value behind
+        pub reads : read_at (read_values ds) s behind ≡ took others z.next
+        pub copies : drop p.copied joined ≡ copied_out d value ++ copied_out_row ds others
 
-    one : Next
-    unfolding copied_out_row
-    one =
-        let r : read_at (read_values (d ∷ ds)) s p.at ≡ took z.rest z.next = rw is at z.reads in
-        let c : copied_out_row (d ∷ ds) z.rest ≡ drop p.copied joined = rw is at z.copies in
-        let t = first_then d ds s p.at z.rest z.next r in
-        record {
-          value = t.0;
-          behind = t.1;
-          others = t.2;
-          read = t.3;
-          reads = t.4;
-          copies = sym c ∙ ap (copied_out_row (d ∷ ds)) (sym t.5);
-        }
+      one : Next
+      unfolding copied_out_row
+      one =
+          let r : read_at (read_values (d ∷ ds)) s p.at ≡ took z.rest z.next = rw is at z.reads in
+          let c : copied_out_row (d ∷ ds) z.rest ≡ drop p.copied joined = rw is at z.copies in
+          let t = first_then d ds s p.at z.rest z.next r in
+          record {
+            value = t.0;
+            behind = t.1;
+            others = t.2;
+            read = t.3;
+            reads = t.4;
+            copies = sym c ∙ ap (copied_out_row (d ∷ ds)) (sym t.5);
+          }
 
-    -- there is place for its numbers and for its content
-    pub place_for : 3 * i + 3 ≤ length vs
-    place_for = omega (arith, l, z.counted, z.room, z.same)
+      -- there is place for its numbers and for its content
+      pub place_for : 3 * i + 3 ≤ length vs
+      place_for = omega (arith, l, z.counted, z.room, z.same)
 
-    long : p.copied + length (copied_out d one.value) ≤ length joined
-    long =
-        let t = ap length one.copies ∙ length-append (copied_out d one.value) (copied_out_row ds one.others) in
-        omega (arith, t, length-drop p.copied joined, z.copied-upto)
+      long : p.copied + length (copied_out d one.value) ≤ length joined
+      long =
+          let t = ap length one.copies ∙ length-append (copied_out d one.value) (copied_out_row ds one.others) in
+          omega (arith, t, length-drop p.copied joined, z.copied_upto)
 
-    pub room_for : FitsAt d (read_at (read_value d) s p.at) p.copied (length bs)
-    room_for =
-        let m : p.copied + length (copied_out d one.value) ≤ length bs = omega (arith, long, z.copied-same, z.fits) in
-        rw one.read m
+      pub room_for : FitsAt d (read_at (read_value d) s p.at) p.copied (length bs)
+      room_for =
+          let m : p.copied + length (copied_out d one.value) ≤ length bs = omega (arith, long, z.copied_same, z.fits) in
+          rw one.read m
 
-    pub inside : p.at ≤ length s
-    inside = (took_at (read_value d) s p.at one.value one.behind one.read).0
+      pub inside : p.at ≤ length s
+      inside = (took_at (read_value d) s p.at one.value one.behind one.read).0
 
-    -- one value more
-    pub slotting_next : (q : Place) (vs' bs' : List ℕ) → Taken d (read_at (read_value d) s p.at) p (3 * i) vs bs vs' bs' q → Slotted (i + 1) q vs' bs'
-    slotting_next q vs' bs' taken =
-        let v = one.value in
-        let m = one.behind in
-        let found = F.found_of d p.at p.copied v in
-        let c = copied_out d v in
-        let others = copied_out_row ds one.others in
-        let rest = slots_of (found_row ds s m (p.copied + length c)) in
-        let w = rw one.read at taken in
-        let b : drop (3 * i) all ≡ slots_of (found_row (d ∷ ds) s p.at p.copied) = rw is at z.behind in
-        let grew = grown all vs values₀ (slot_of found) rest vs' (3 * i) 3 (three found) z.upto z.room z.same z.holds
-        (b ∙ found_more d s p.at p.copied v m one.read ds) w.0 in
-        let more = grown joined bs out₀ c others bs' p.copied (length c) refl z.copied-upto z.fits z.copied-same z.copied-holds
-        one.copies w.1 in
-        let three_more : 3 * i + 3 ≡ 3 * (i + 1) = omega arith in
-        rw w.2 (record {
-          rest = one.others;
-          next = z.next;
-          reads = one.reads;
-          counted = z.counted;
-          room = z.room;
-          upto = omega (arith, grew.room);
-          same = grew.same;
-          holds = grew.holds ∙ ap (λ (n : ℕ). front all n values₀) three_more;
-          behind = ap (λ (n : ℕ). drop n all) (sym three_more) ∙ grew.left;
-          fits = z.fits;
-          copied_upto = more.room;
-          copied_same = more.same;
-          copied_holds = more.holds;
-          copies = sym more.left;
-        })
+      -- one value more
+      pub slotting_next : (q : Place) (vs' bs' : List ℕ) → Taken d (read_at (read_value d) s p.at) p (3 * i) vs bs vs' bs' q → Slotted (i + 1) q vs' bs'
+      slotting_next q vs' bs' taken =
+          let v = one.value in
+          let m = one.behind in
+          let found = F.found_of d p.at p.copied v in
+          let c = copied_out d v in
+          let others = copied_out_row ds one.others in
+          let rest = slots_of (found_row ds s m (p.copied + length c)) in
+          let w = rw one.read at taken in
+          let b : drop (3 * i) all ≡ slots_of (found_row (d ∷ ds) s p.at p.copied) = rw is at z.behind in
+          let grew = grown all vs values₀ (slot_of found) rest vs' (3 * i) 3 (three found) z.upto z.room z.same z.holds
+          (b ∙ found_more d s p.at p.copied v m one.read ds) w.0 in
+          let more = grown joined bs out₀ c others bs' p.copied (length c) refl z.copied_upto z.fits z.copied_same z.copied_holds
+          one.copies w.1 in
+          let three_more : 3 * i + 3 ≡ 3 * (i + 1) = omega arith in
+          rw w.2 (record {
+            rest = one.others;
+            next = z.next;
+            reads = one.reads;
+            counted = z.counted;
+            room = z.room;
+            upto = omega (arith, grew.room);
+            same = grew.same;
+            holds = grew.holds ∙ ap (λ (n : ℕ). front all n values₀) three_more;
+            behind = ap (λ (n : ℕ). drop n all) (sym three_more) ∙ grew.left;
+            fits = z.fits;
+            copied_upto = more.room;
+            copied_same = more.same;
+            copied_holds = more.holds;
+            copies = sym more.left;
+          })
 
   -- ---- behind the last turn
 
@@ -233,7 +233,7 @@ module _ (ys : List Column) (s : List ℕ) (from : ℕ) (values₀ out₀ : List
     all_copied =
         let o : left (length ys) ≡ [] = rw (none_left ys) in
         let m : [] ≡ drop p.copied joined = rw o at z.copies in
-        z.copied-holds ∙ front-end joined p.copied out₀ z.copied-upto (sym m)
+        z.copied_holds ∙ front-end joined p.copied out₀ z.copied_upto (sym m)
 
     pub joining_ends : Readable (length out₀) cs (read_at (read_values cs) s from) → bs ≡ room_after_read (copied_out_row cs)
         (read_at (read_values cs) s from) out₀

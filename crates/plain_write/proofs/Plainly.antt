@@ -200,8 +200,11 @@ module _ (table values buffer : List ℕ) (i : ℕ) where
   as_numbers : written_at table values buffer i ≡ write_value (column_of (drop (16 * i) table) no_names) (value_of buffer kind_at first_at second_at)
   as_numbers =
       let at = 3 * i in
-      rw (plain_told buffer (drop (16 * i) table), value_told_lem buffer (get_or (drop at values) 0 0) (get_or (drop at values) 1 0)
-          (get_or (drop at values) 2 0))
+      rw (
+        plain_told buffer (drop (16 * i) table),
+        value_told_lem buffer (get_or (drop at values) 0 0) (get_or (drop at values) 1 0)
+            (get_or (drop at values) 2 0),
+      )
       (rw (get_or-drop at values 0 0, get_or-drop at values 1 0, get_or-drop at values 2 0, add-zero at))
 
   pub taken_at : (p : Plain) (n : ℕ) → Says p (column_of (drop (16 * i) table) no_names) → IsSize p kind_at n → (n ≡ 0 → ⊥) → first_at < 256 ^ 8

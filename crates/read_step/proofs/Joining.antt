@@ -244,5 +244,5 @@ module _ (ys : List Column) (s : List ℕ) (from : ℕ) (out₀ : List ℕ) wher
 
   pub joining_ends : (f : Read Needs) → ((b : List ℕ) → f ≡ map_read (needs_of (columns_told b ys)) (answer b)) → (i : ℕ) (p : Place) (bs : List ℕ)
       → i ≡ turns_of f n → ((b : List ℕ) → Joined b (answer b) i p bs) → (b : List ℕ) → bs ≡ room_after_read (copied_out_row (columns_told b ys))
-          (answer b) out₀
+      (answer b) out₀
   joining_ends f is i p bs l z b = ends b (answer b) f i p bs (is b) l (z b)

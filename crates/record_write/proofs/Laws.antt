@@ -127,12 +127,12 @@ module _ (r : List ℕ) (l : 16 ≤ length r) (t : TypeId) (e : type_of (get_or 
   digits_written d c g z n p x names =
       let is = unflagged_column r names t e (unflagged r l l g z) g in
       let wr = form-written t w f (length_at r) (get_or r 2 0) (get_or r 3 0) none n (rw (d, lt-ltb (get_or r 2 0) 256 p, lt-ltb (get_or r 3 0) 256 x))
-          (rw c) in
+      (rw c) in
       ap write_column is ∙ (wr ∙ rw (d, type_byte_lem (get_or r 0 0) t e))
 
   pub text-written : has_digits t ≡ false → has_collation t ≡ true → IsText r → length_at r < 256 ^ w → info_at r < 256 ^ 4 → get_or r 12 0 < 256 →
       (names : Schema) → write_column (column_of r names) ≡ gives
-          (get_or r 0 0 ∷ (low_bytes w (length_at r) ++ (low_bytes 4 (info_at r) ++ (get_or r 12 0 ∷ []))))
+      (get_or r 0 0 ∷ (low_bytes w (length_at r) ++ (low_bytes 4 (info_at r) ++ (get_or r 12 0 ∷ []))))
   text-written d c b n i s names =
       let h = head 1 (omega arith) r l b.0 in
       let k = collated r l l h.0 b.1 in

@@ -12,8 +12,22 @@ use borrow.Author.Tests.{ltb-false, eqb-true}
 use Rattle.lists.proofs.Split.{split, clash}
 use Rattle.format.specs.Answer.{Refusal, Answer, gives, refuses, missing, long, Read, took, stops, map_read}
 use Rattle.format.specs.Number.{low_nat, low_bytes, read_low}
-use Rattle.format.specs.Plp.{plp_bound, plp_null, plp_unknown, PlpHead, is_null, chunked, head_of, read_plp_head, Walk, Walked, opened, walk_from,
-    joined_of, read_chunks}
+use Rattle.format.specs.Plp.{
+  plp_bound,
+  plp_null,
+  plp_unknown,
+  PlpHead,
+  is_null,
+  chunked,
+  head_of,
+  read_plp_head,
+  Walk,
+  Walked,
+  opened,
+  walk_from,
+  joined_of,
+  read_chunks,
+}
 use Rattle.format.specs.Plp.{read_plp, plp_bytes}
 use Rattle.format.proofs.Number.{Bytes, low_forth}
 use Rattle.format.proofs.Place.{past, no_took, then_took}

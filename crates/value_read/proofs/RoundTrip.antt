@@ -14,8 +14,23 @@ use lib.Dec.{ltb}
 use lib.ListN.{length, take, drop, length-append}
 use lib.Seq.{take-append_seam, drop-append_seam}
 use borrow.Author.Tests.{le-ltb}
-use Rattle.format.specs.Answer.{Answer, gives, refuses, missing, room, Read, took, stops, map_read, read_at, fitted, wrote, room_after, fitted_read,
-    room_after_read}
+use Rattle.format.specs.Answer.{
+  Answer,
+  gives,
+  refuses,
+  missing,
+  room,
+  Read,
+  took,
+  stops,
+  map_read,
+  read_at,
+  fitted,
+  wrote,
+  room_after,
+  fitted_read,
+  room_after_read,
+}
 use Rattle.lists.specs.Pick.{pick}
 use Rattle.format.specs.Descriptor as D
 use Rattle.format.specs.Value as Values

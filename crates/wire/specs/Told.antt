@@ -1,6 +1,5 @@
 -- What this crate's declared types tell, in the words of `format`: document 01's number or values for each case of an enum.
 use Rattle.std.specs.Prelude.{ℕ, ◌<◌, ◌≤◌, List, ◌++◌, length, take, drop}
-use Rattle.lists.specs.Pick.{pick}
 use Rattle.format.specs.Answer.{Answer, gives, refuses, Read, took, stops, map_read}
 use Rattle.format.specs.Answer as A
 use Rattle.format.specs.Number.{high_nat, high_bytes, read_bytes}

@@ -49,7 +49,7 @@ read_is : (c : After-read_number-read) →
 read_is c =
     let a = c.args in
     number_is a.width a.high a.bytes.now a.at (found_at_after_read_number_read c).0 _ _ (found_at_after_read_number_read c).1 c.if-high-gt1.false
-        c.read_number-read.ensures
+    c.read_number-read.ensures
 
 pub returns-in-Number : goal.returns-in-Number
 returns-in-Number c =

@@ -37,7 +37,7 @@ returns-then-count-gt1024 c =
 -- the number of columns is kept: what is read then, and where it stops
 listed : (c : Start) → c.args.count ≤ 1024 →
     stop_if (ltb max_columns c.args.count) rule (read_at (read_columns c.args.count) c.args.s.now c.args.cursor.at)
-        ≡ (read_at (read_columns c.args.count) c.args.s.now c.args.cursor.at)
+    ≡ (read_at (read_columns c.args.count) c.args.s.now c.args.cursor.at)
 listed c l = ap (λ (b : Bool). stop_if b rule (read_at (read_columns c.args.count) c.args.s.now c.args.cursor.at)) (le-ltb 1024 c.args.count l)
 
 pub returns-then-s-cursor : goal.returns-then-s-cursor

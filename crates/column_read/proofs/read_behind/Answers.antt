@@ -33,7 +33,7 @@ returns-in-Refused c =
 pub overflow_cast-result-in-Pair-read_pair : goal.overflow_cast-result-in-Pair-read_pair
 overflow_cast-result-in-Pair-read_pair c =
     let b : PairBelow (256 ^ 4) (P.Pair c.in-Pair-read_pair.info c.in-Pair-read_pair.sort c.in-Pair-read_pair.next) = rw c.in-Pair-read_pair.is at
-        c.read_pair-then-has_collation.ensures.1 in
+    c.read_pair-then-has_collation.ensures.1 in
     omega arith
 
 pub returns-in-Pair-read_pair : goal.returns-in-Pair-read_pair

@@ -16,8 +16,8 @@ found c = sym (ap wrote_told c.in-Bytes.is) ∙ c.column_size.ensures
 
 pub returns-then-out-n : goal.returns-then-out-n
 returns-then-out-n c =
-     let all = sized-short c.args.out.now c.in-Bytes.n (write_column (column_told c.args.names.now c.args.c))
-         (found (goal.at.returns-then-out-n c).In-Bytes) c.if-out-n.true in record {
+    let all = sized-short c.args.out.now c.in-Bytes.n (write_column (column_told c.args.names.now c.args.c))
+    (found (goal.at.returns-then-out-n c).In-Bytes) c.if-out-n.true in record {
       answer = all.0;
       room = all.1;
     }
@@ -34,7 +34,7 @@ returns-else-out-n c =
     let z = sized (column_told c.args.names.now c.args.c) n (found (goal.at.returns-else-out-n c).In-Bytes) in
     let stored = c.put_column.ensures ∙ front_stored (column_bytes (column_told c.args.names.now c.args.c)) out (omega (arith, z.2)) in
     let all = sized-written out n (write_column (column_told c.args.names.now c.args.c)) _ (found (goal.at.returns-else-out-n c).In-Bytes) c.if-out-n.false
-        (rw z.0 stored) in record {
+    (rw z.0 stored) in record {
       answer = all.0;
       room = all.1;
     }

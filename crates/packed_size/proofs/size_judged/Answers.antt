@@ -41,12 +41,12 @@ less c = subst (λ (n : ℕ). c.loop-i.i < n) (turned_at_in_loop_i c) c.loop-i-t
 has-column : (c : In-loop-i) → c.loop-i.i < length (table_made c.args.table.now)
 has-column c =
     (inside c.args.buffer.now (table_made c.args.table.now) (givens_made c.args.values.now) (wrote_told c.start-s.result) c.loop-i.i (begun_at_in_loop_i c)
-        (less c)).0
+    (less c)).0
 
 has_value : (c : In-loop-i) → c.loop-i.i < length (givens_made c.args.values.now)
 has_value c =
     (inside c.args.buffer.now (table_made c.args.table.now) (givens_made c.args.values.now) (wrote_told c.start-s.result) c.loop-i.i (begun_at_in_loop_i c)
-        (less c)).1
+    (less c)).1
 
 counted : (c : After-start-s) → c.records-columns.result ≡ length (table_made c.args.table.now)
 counted c = c.records-columns.ensures ∙ sym (columns-counted c.args.table.now)
@@ -77,9 +77,9 @@ loop-i-preserved c =
       omega (arith, c.loop-i-test.true),
       λ h.
           sizing_next a.buffer.now (table_made c.args.table.now) (givens_made c.args.values.now) (wrote_told c.start-s.result) i (wrote_told c.loop-i.s)
-              (wrote_told c.size_at-s.result)
+          (wrote_told c.size_at-s.result)
           (column_made (drop (16 * i) a.table.now) no_name no_name no_name) (given_made (drop (3 * i) vs)) h (less (goal.at.loop-i-preserved c).In-loop-i)
-              (c.loop-i.invariant.1 h) e g
+          (c.loop-i.invariant.1 h) e g
           c.size_at-s.ensures,
     )
 
@@ -97,6 +97,6 @@ returns c =
     let state = wrote_told c.start-s.result in
     let last = le_antisymm c.loop-i.invariant.0 c.loop-i-test.false ∙ turned (goal.at.returns c).At-loop-i in
     let sized = subst (λ (i : ℕ). Sized b (table_made c.args.table.now) (givens_made c.args.values.now) state i (wrote_told c.loop-i.s)) last
-        (c.loop-i.invariant.1 (begun (goal.at.returns c).After-start-s)) in
+    (c.loop-i.invariant.1 (begun (goal.at.returns c).After-start-s)) in
     sizing_ends b (table_made c.args.table.now) (givens_made c.args.values.now) state (wrote_told c.loop-i.s) (begun (goal.at.returns c).After-start-s) sized
     ∙ ap wrote (row_told_lem b a.table.now a.values.now)

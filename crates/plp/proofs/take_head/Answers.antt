@@ -23,7 +23,7 @@ pub returns-then-n-eq0 : goal.returns-then-n-eq0
 returns-then-n-eq0 c =
     let a = c.args in
     c.end_of.ensures ∙ sym (head_zero a.s.now (walk_told a.w) (there (goal.at.returns-then-n-eq0 c).Then-inside)
-        (sym c.low_at-n.ensures.value ∙ c.if-n-eq0.true))
+    (sym c.low_at-n.ensures.value ∙ c.if-n-eq0.true))
 
 pub chunk_of-requires : goal.chunk_of-requires
 chunk_of-requires c = there (goal.at.chunk_of-requires c).Then-inside
@@ -32,7 +32,7 @@ pub returns-then-inside : goal.returns-then-inside
 returns-then-inside c =
     let a = c.args in
     c.chunk_of.ensures ∙ sym (head_chunk a.s.now (walk_told a.w) (there (goal.at.returns-then-inside c).Then-inside) _ c.low_at-n.ensures.value
-        c.if-n-eq0.false)
+    c.if-n-eq0.false)
 
 pub returns : goal.returns
 returns c =

@@ -33,4 +33,4 @@ pub returns-in-Refused-walked : goal.returns-in-Refused-walked
 returns-in-Refused-walked c =
     let a = c.args in
     sym (judge_refused a.text a.rest.now _ _ (opens (goal.at.returns-in-Refused-walked c).In-Walk) _
-        (sym c.walk_chunks-walked.ensures ∙ ap walked_told c.in-Refused-walked.is))
+    (sym c.walk_chunks-walked.ensures ∙ ap walked_told c.in-Refused-walked.is))

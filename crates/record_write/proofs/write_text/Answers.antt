@@ -25,7 +25,7 @@ returns-then-is_text c =
     let sort : get_or r 12 0 < 256 = omega (arith, c.type_inv.r 12) in
     let law = text-written r c.requires.0 (u_short_len is.0) is.1 2 (short-form is.0) refl is.2 d d.2 info sort in
     written r out _ (get_or r 0 0 ∷ (low_bytes 2 (length_at r) ++ (low_bytes 4 (info_at r) ++ (get_or r 12 0 ∷ [])))) 8 refl (omega arith)
-        c.if-out-lt8.false law
+    c.if-out-lt8.false law
     (text_stored out _ _ _ _ _ _ _ _ _ _ c.put_byte.ensures c.low_at.ensures.value c.put_low.ensures
     c.low_at-then-is_text.ensures.value c.put_low-then-is_text.ensures c.put_byte-then-is_text.ensures)
 

@@ -17,7 +17,7 @@ fits c =
     let a = c.args in
     c.fit_in-fits.ensures
     ∙ fit_normal_lem (columns_told [] a.cols.now) a.s.now a.cursor.at (length a.out.now) (row_judged_told c.judge_row-judged.result)
-        (c.judge_row-judged.ensures [])
+    (c.judge_row-judged.ensures [])
 
 pub loop-i-init : goal.loop-i-init
 loop-i-init c =

@@ -29,5 +29,5 @@ returns c =
     let a = c.args in
     let i = c.loop-i.invariant in
     let e : c.loop-i.i ≡ turns_of (start_of (length a.cols.now) (length a.values.now)) (length a.cols.now) = let z : c.loop-i.i ≡ c.turns-n.result = omega
-        arith in z ∙ i.turns in
+    arith in z ∙ i.turns in
     sizing_ends a.buffer.now a.cols.now a.values.now _ (wrote_told c.loop-i.s) refl (rw e at i.sized)

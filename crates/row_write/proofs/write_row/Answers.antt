@@ -13,7 +13,7 @@ fits : (c : After-fit_in-fits) → wrote_told c.fit_in-fits.result ≡ wrote (an
 fits c =
     let a = c.args in
     c.fit_in-fits.ensures ∙ (ap (λ r. fit_in r (length a.out.now)) c.row_size-size.ensures ∙ fit_wrote (asked a.buffer.now a.cols.now a.values.now)
-        (length a.out.now))
+    (length a.out.now))
 
 pub loop-i-init : goal.loop-i-init
 loop-i-init c =
@@ -42,7 +42,7 @@ pub fill_on-at-requires : goal.fill_on-at-requires
 fill_on-at-requires c =
     let a = c.args in
     filling_asks_of a.buffer.now a.cols.now a.values.now a.out.now _ c.loop-i.i c.loop-i.at c.loop-i.out _ _ refl
-        (turn (goal.at.fill_on-at-requires c).In-loop-i)
+    (turn (goal.at.fill_on-at-requires c).In-loop-i)
     c.loop-i.invariant.filled c.column_at-c.ensures c.value_at-v.ensures
 
 pub loop-i-preserved : goal.loop-i-preserved

@@ -15,8 +15,8 @@ found c = sym (ap wrote_told c.in-Bytes.is) ∙ c.untyped_size-size.ensures
 
 pub returns-then-out-m : goal.returns-then-out-m
 returns-then-out-m c =
-     let all = sized-short c.args.out.now c.in-Bytes.m (write_untyped (value_told c.args.buffer.now c.args.v))
-         (found (goal.at.returns-then-out-m c).In-Bytes) c.if-out-m.true in record {
+    let all = sized-short c.args.out.now c.in-Bytes.m (write_untyped (value_told c.args.buffer.now c.args.v))
+    (found (goal.at.returns-then-out-m c).In-Bytes) c.if-out-m.true in record {
       answer = all.0;
       room = all.1;
     }
@@ -31,17 +31,17 @@ pub returns-else-out-m : goal.returns-else-out-m
 returns-else-out-m c =
     let out = c.args.out.now in
     let after = front-filled (write_untyped (value_told c.args.buffer.now c.args.v)) out _ c.in-Bytes.m (found (goal.at.returns-else-out-m c).In-Bytes)
-        c.fill_untyped.ensures in
+    c.fill_untyped.ensures in
     let all = sized-written out c.in-Bytes.m (write_untyped (value_told c.args.buffer.now c.args.v)) _ (found (goal.at.returns-else-out-m c).In-Bytes)
-        c.if-out-m.false after in record {
+    c.if-out-m.false after in record {
       answer = all.0;
       room = all.1;
     }
 
 pub returns-in-Refused : goal.returns-in-Refused
 returns-in-Refused c =
-     let all = refused_before (write_untyped (value_told c.args.buffer.now c.args.v)) c.args.out.now _
-         (sym (ap wrote_told c.in-Refused.is) ∙ c.untyped_size-size.ensures) in record {
+    let all = refused_before (write_untyped (value_told c.args.buffer.now c.args.v)) c.args.out.now _
+    (sym (ap wrote_told c.in-Refused.is) ∙ c.untyped_size-size.ensures) in record {
       answer = all.0;
       room = all.1;
     }

@@ -41,7 +41,7 @@ returns-then-keeps_rule c =
       canonical = c.read_in.ensures.canonical;
       room = λ b. (place_inside (column_told b a.c) a.s.now a.cursor.at a.out.now c.if-s-at.false
           (keeps (goal.at.returns-then-keeps_rule c).Then-keeps_rule b) _ _ _ _ _ refl f r
-            (c.read_in.ensures.told (column_told b a.c) refl) (c.read_in.ensures.room (column_told b a.c) refl)).stays;
+          (c.read_in.ensures.told (column_told b a.c) refl) (c.read_in.ensures.room (column_told b a.c) refl)).stays;
     }
 
 pub returns : goal.returns

@@ -38,7 +38,7 @@ pub returns-in-Content : goal.returns-in-Content
 returns-in-Content c =
     let a = c.args in
     let all = judged_content (is_text (content_kind_told a.k)) a.rest.now _ _ (told (goal.at.returns-in-Content c).After-judge_plp-judged _
-        c.in-Content.is) _ c.formed.ensures.0 in record {
+    c.in-Content.is) _ c.formed.ensures.0 in record {
       told = all.0;
       within = all.1;
     }

@@ -15,8 +15,8 @@ found c = sym (ap wrote_told c.in-Bytes.is) ∙ c.in_family-size.ensures
 
 pub returns-then-out-n : goal.returns-then-out-n
 returns-then-out-n c =
-     let all = sized-short c.args.out.now c.in-Bytes.n (write_family c.args.declared (family_told c.args.f) (value_told c.args.buffer.now c.args.v))
-         (found (goal.at.returns-then-out-n c).In-Bytes) c.if-out-n.true in record {
+    let all = sized-short c.args.out.now c.in-Bytes.n (write_family c.args.declared (family_told c.args.f) (value_told c.args.buffer.now c.args.v))
+    (found (goal.at.returns-then-out-n c).In-Bytes) c.if-out-n.true in record {
       answer = all.0;
       room = all.1;
     }
@@ -31,17 +31,17 @@ pub returns-else-out-n : goal.returns-else-out-n
 returns-else-out-n c =
     let out = c.args.out.now in
     let after = front-filled (write_family c.args.declared (family_told c.args.f) (value_told c.args.buffer.now c.args.v)) out _ c.in-Bytes.n
-        (found (goal.at.returns-else-out-n c).In-Bytes) c.fill.ensures in
+    (found (goal.at.returns-else-out-n c).In-Bytes) c.fill.ensures in
     let all = sized-written out c.in-Bytes.n (write_family c.args.declared (family_told c.args.f) (value_told c.args.buffer.now c.args.v)) _
-        (found (goal.at.returns-else-out-n c).In-Bytes) c.if-out-n.false after in record {
+    (found (goal.at.returns-else-out-n c).In-Bytes) c.if-out-n.false after in record {
       answer = all.0;
       room = all.1;
     }
 
 pub returns-in-Refused : goal.returns-in-Refused
 returns-in-Refused c =
-     let all = refused_before (write_family c.args.declared (family_told c.args.f) (value_told c.args.buffer.now c.args.v)) c.args.out.now _
-         (sym (ap wrote_told c.in-Refused.is) ∙ c.in_family-size.ensures) in record {
+    let all = refused_before (write_family c.args.declared (family_told c.args.f) (value_told c.args.buffer.now c.args.v)) c.args.out.now _
+    (sym (ap wrote_told c.in-Refused.is) ∙ c.in_family-size.ensures) in record {
       answer = all.0;
       room = all.1;
     }

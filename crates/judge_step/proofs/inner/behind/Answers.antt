@@ -64,23 +64,28 @@ keeps_at_after_weigh_weighed c b = sym (c.keeps_rule.ensures b) ∙ c.if-keeps_r
 told : (c : After-weigh-weighed) (w : Weighed) → c.weigh-weighed.result ≡ w → (b : List ℕ) →
     let a = c.args in
     on_weighed (record { joined = c.args.row.joined; normal = c.args.row.normal }) a.row.next.at (weighed_told w) ≡ judge_on (column_told b a.c) a.s.now
-        (took (record { joined = c.args.row.joined; normal = c.args.row.normal }) a.row.next.at)
+    (took (record { joined = c.args.row.joined; normal = c.args.row.normal }) a.row.next.at)
 told c w e b =
     let a = c.args in
     ap (λ (x : Weighed). on_weighed (record { joined = c.args.row.joined; normal = c.args.row.normal }) a.row.next.at (weighed_told x)) (sym e)
     ∙ judged_weighed (column_told b a.c) a.s.now a.row.next.at (record { joined = c.args.row.joined; normal = c.args.row.normal }) c.requires.0
-        (keeps_at_after_weigh_weighed c b) _ _ _ _ refl
+    (keeps_at_after_weigh_weighed c b) _ _ _ _ refl
     c.family_of.ensures (rest_is a.s.now a.row.next.at) c.weigh-weighed.ensures.told
 
 pub returns-in-Fine : goal.returns-in-Fine
-returns-in-Fine c = (λ b. told (goal.at.returns-in-Fine c).After-weigh-weighed _ c.in-Fine.is b, inside_more c.args.s.now c.args.row.next.at _ _ _
-    (record { joined = c.args.row.joined; normal = c.args.row.normal }) c.requires (within (goal.at.returns-in-Fine c).In-Fine))
+returns-in-Fine c = (
+  λ b. told (goal.at.returns-in-Fine c).After-weigh-weighed _ c.in-Fine.is b,
+  inside_more c.args.s.now c.args.row.next.at _ _ _
+      (record { joined = c.args.row.joined; normal = c.args.row.normal }) c.requires (within (goal.at.returns-in-Fine c).In-Fine),
+)
 
 pub returns-in-Refused : goal.returns-in-Refused
 returns-in-Refused c = (λ b. told (goal.at.returns-in-Refused c).After-weigh-weighed _ c.in-Refused.is b, tt)
 
 pub returns : goal.returns
 returns c =
-    let a = c.args in
-    (λ b. judged_rule (column_told b a.c) a.s.now a.row.next.at (record { joined = c.args.row.joined; normal = c.args.row.normal }) c.requires.0
-        (sym (c.keeps_rule.ensures b) ∙ c.if-keeps_rule.false), tt)
+    let a = c.args in (
+      λ b. judged_rule (column_told b a.c) a.s.now a.row.next.at (record { joined = c.args.row.joined; normal = c.args.row.normal }) c.requires.0
+          (sym (c.keeps_rule.ensures b) ∙ c.if-keeps_rule.false),
+      tt,
+    )

@@ -1,6 +1,5 @@
 -- `number::inner::copy` meets its contract. The invariant: the first i bytes of the source stand at the front, and the rest is as it was. Assumes nothing.
 use mathlib.Core.Path.{◌≡◌, refl, ◌∙◌}
-use Prim.Native.Nat.{◌-◌}
 use native.Mathlib.Omega.{arith}
 use borrow.Author.Rules.{rules}
 use lib.ListN.{length, length-set}

@@ -1,6 +1,6 @@
 -- `number::inner::high_at` meets its contract. The invariant: n, with the bytes not yet read behind it, is the number. Assumes nothing.
 use mathlib.Core.Path.{◌≡◌, ◌∙◌}
-use Prim.Native.Nat.{◌+◌, ◌*◌, ◌-◌, ◌<◌, ◌^◌}
+use Prim.Native.Nat.{◌+◌, ◌*◌, ◌<◌, ◌^◌}
 use native.Mathlib.Omega.{arith}
 use native.Mathlib.Nat.{sub_self, sub-zero, add-zero}
 use borrow.Author.Rules.{rules}

@@ -1,6 +1,5 @@
 -- `number::inner::put_low` meets its contract. The invariant: what is left to store, stored, gives what is promised. Assumes nothing.
 use mathlib.Core.Path.{◌≡◌, refl, ◌∙◌}
-use Prim.Native.Nat.{◌-◌}
 use native.Mathlib.Omega.{arith}
 use native.Mathlib.Nat.{sub_self, sub-zero, add-zero}
 use borrow.Author.Rules.{rules}

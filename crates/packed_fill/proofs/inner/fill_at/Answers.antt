@@ -43,12 +43,20 @@ pub put_in-requires : goal.put_in-requires
 put_in-requires c = room (goal.at.put_in-requires c).Else-n-eq0
 
 pub overflow_add-result : goal.overflow_add-result
-overflow_add-result c = record { fits = omega (arith, room (goal.at.overflow_add-result c).Else-n-eq0,
-    (taken (goal.at.overflow_add-result c).Else-n-eq0).counted) }
+overflow_add-result c = record {
+  fits = omega (
+    arith,
+    room (goal.at.overflow_add-result c).Else-n-eq0,
+    (taken (goal.at.overflow_add-result c).Else-n-eq0).counted,
+  );
+}
 
 pub returns : goal.returns
 returns c =
     let a = c.args in
     let next = ap (λ (k : ℕ). a.at + k) (sym (taken (goal.at.returns c).Else-n-eq0).counted) in
-    rw (taken (goal.at.returns c).Else-n-eq0).written (next, stored a.out.now _ (bytes (goal.at.returns c).Else-n-eq0) a.at
-        (room (goal.at.returns c).Else-n-eq0) c.put_in.ensures)
+    rw (taken (goal.at.returns c).Else-n-eq0).written (
+      next,
+      stored a.out.now _ (bytes (goal.at.returns c).Else-n-eq0) a.at
+          (room (goal.at.returns c).Else-n-eq0) c.put_in.ensures,
+    )

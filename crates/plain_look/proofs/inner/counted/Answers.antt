@@ -31,7 +31,7 @@ pub returns-then-n-eq0 : goal.returns-then-n-eq0
 returns-then-n-eq0 c =
     let a = c.args in
     null-width a.k (drop c.args.at c.args.s.now) (omega (arith, length-drop a.at a.s.now, c.if-there-eq0.false))
-        (first (goal.at.returns-then-n-eq0 c).Start ∙ c.if-n-eq0.true)
+    (first (goal.at.returns-then-n-eq0 c).Start ∙ c.if-n-eq0.true)
 
 pub returns-then-n-bytes_of : goal.returns-then-n-bytes_of
 returns-then-n-bytes_of c = never (P.Counted c.args.k) (drop c.args.at c.args.s.now)
@@ -43,5 +43,5 @@ pub returns : goal.returns
 returns c =
     let a = c.args in
     counted-width a.k (get_or a.s.now a.at 0) (drop c.args.at c.args.s.now) (first (goal.at.returns c).Start) (c.if-n-bytes_of.false ∙ c.bytes_of.ensures)
-        c.if-n-eq0.false
+    c.if-n-eq0.false
     (bytes_drop a.at a.s.now (bytes (goal.at.returns c).After-shared_slice_known-1)) (omega (arith, length-drop a.at a.s.now, c.if-there-n.false))

@@ -13,5 +13,8 @@ returns-then-is_int4 c n =
     (value_in (P.Counted K.I32) (drop c.args.at c.args.s.now), (c.counted.ensures (column_of (drop (16 * c.args.i) c.args.table.now) no_names) said n).0)
 
 pub returns : goal.returns
-returns c n = (value_in c.plain_at-p.result (drop c.args.at c.args.s.now), (c.width_in.ensures (column_of (drop (16 * c.args.i) c.args.table.now) no_names)
-    c.plain_at-p.ensures n).0)
+returns c n = (
+  value_in c.plain_at-p.result (drop c.args.at c.args.s.now),
+  (c.width_in.ensures (column_of (drop (16 * c.args.i) c.args.table.now) no_names)
+      c.plain_at-p.ensures n).0,
+)

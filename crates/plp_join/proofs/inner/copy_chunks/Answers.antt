@@ -33,7 +33,7 @@ returns-then-n-eq0 c =
 bytes : (c : Else-n-eq0) →
     let a = c.args in
     Copied a.rest.now (content_of a.text a.rest.now) c.loop-text.o c.loop-text.at c.low_at-n.result c.low_at-n.ensures.value c.loop-text.invariant.0
-        c.loop-text.invariant.4
+    c.loop-text.invariant.4
 bytes c = copied _ _ _ _ _ c.low_at-n.ensures.value c.loop-text.invariant.0 c.loop-text.invariant.4 c.if-n-eq0.false
 
 pub overflow_add-b : goal.overflow_add-b
@@ -64,5 +64,5 @@ loop-text-preserved c =
     let q : c.loop-text.at + 4 + n - (c.loop-text.at + 4) ≡ n = omega arith in
     let new = rw (q, t.are) at c.paste.ensures in
     let g = grown _ _ _ t.bytes t.rest _ _ n t.long c.loop-text.invariant.0 c.loop-text.invariant.1 c.loop-text.invariant.2 c.loop-text.invariant.3 t.joins
-        new in
+    new in
     (g.room, c.loop-text.invariant.1, g.same, g.holds, rw g.left t.on)

@@ -10,7 +10,7 @@ abbrev pub invariant-loop-text : goal.invariant-loop-text
 invariant-loop-text l =
     let j = content_of l.text l.rest in
     (l.o ≤ length j) × (length j ≤ length l.initial.out) × (length l.out ≡ length l.initial.out) × (l.out ≡ front j l.o l.initial.out) × Going l.rest l.at
-        (drop l.o j)
+    (drop l.o j)
 
 abbrev pub decreases-loop-text : goal.decreases-loop-text
 decreases-loop-text l = length l.rest - l.at

@@ -40,8 +40,12 @@ copy_chunks-requires c =
     (k.is, omega (arith, k.long, c.if-out-count.false))
 
 pub overflow_add-result-in-Content : goal.overflow_add-result-in-Content
-overflow_add-result-in-Content c = omega (arith, c.requires, judged_inside c.args.text c.args.rest.now _ _
-    (content (goal.at.overflow_add-result-in-Content c).In-Content))
+overflow_add-result-in-Content c = omega (
+  arith,
+  c.requires,
+  judged_inside c.args.text c.args.rest.now _ _
+      (content (goal.at.overflow_add-result-in-Content c).In-Content),
+)
 
 pub returns-in-Null : goal.returns-in-Null
 returns-in-Null c =

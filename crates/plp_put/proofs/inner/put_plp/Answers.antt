@@ -20,12 +20,12 @@ slice_bounds-copy_chunks-end c = part_end (content_of c.args.text c.args.rest.no
 pub copy_chunks-requires : goal.copy_chunks-requires
 copy_chunks-requires c =
     let count = part_count (content_of c.args.text c.args.rest.now) c.args.out.now _ _ c.requires.1
-        (c.put_frame-end.ensures.end, c.put_frame-end.ensures.room) in
+    (c.put_frame-end.ensures.end, c.put_frame-end.ensures.room) in
     (c.requires.0, rw (← count) (le_refl _))
 
 pub returns : goal.returns
 returns c =
     let count = part_count (content_of c.args.text c.args.rest.now) c.args.out.now _ _ c.requires.1
-        (c.put_frame-end.ensures.end, c.put_frame-end.ensures.room) in
+    (c.put_frame-end.ensures.end, c.put_frame-end.ensures.room) in
     part_filled (content_of c.args.text c.args.rest.now) c.args.out.now _ _ c.requires.1 (c.put_frame-end.ensures.end, c.put_frame-end.ensures.room) _
     (c.copy_chunks.ensures ∙ placed-all (content_of c.args.text c.args.rest.now) _ count)

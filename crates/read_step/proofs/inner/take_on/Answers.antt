@@ -44,9 +44,10 @@ room c = is_room (column c []) c.args.s.now c.args.out.now c.args.place.cursor.a
 
 pub read_in-read-requires : goal.read_in-read-requires
 read_in-read-requires c =
-    let l = ap length (rest_is c.args.s.now c.args.place.cursor.at) in
-    (omega (arith, c.well_formed, inside (goal.at.read_in-read-requires c).Start, l, length-drop c.args.place.cursor.at c.args.s.now),
-        omega (arith, room (goal.at.read_in-read-requires c).Start))
+    let l = ap length (rest_is c.args.s.now c.args.place.cursor.at) in (
+      omega (arith, c.well_formed, inside (goal.at.read_in-read-requires c).Start, l, length-drop c.args.place.cursor.at c.args.s.now),
+      omega (arith, room (goal.at.read_in-read-requires c).Start),
+    )
 
 -- the column, its names parts of a buffer
 abbrev column_at_after_read_in_read : (c : After-read_in-read) → List ℕ → D.Column
@@ -69,8 +70,8 @@ returns-in-Value c =
           (placed_there (column (goal.at.returns-in-Value c).Start b) a.s.now a.out.now a.place.cursor.at a.place.copied (c.requires b) _ _ _ refl f r _ _ e);
       canonical = rw c.in-Value.is at c.read_in-read.ensures.canonical;
       room = λ b.
-            let g = c.read_in-read.ensures.room (column (goal.at.returns-in-Value c).Start b) refl in
-            room_holds (column (goal.at.returns-in-Value c).Start b) a.s.now a.out.now a.place.cursor.at a.place.copied (c.requires b) _ _ _ refl f r _ g;
+          let g = c.read_in-read.ensures.room (column (goal.at.returns-in-Value c).Start b) refl in
+          room_holds (column (goal.at.returns-in-Value c).Start b) a.s.now a.out.now a.place.cursor.at a.place.copied (c.requires b) _ _ _ refl f r _ g;
     }
 
 pub returns-in-Refused : goal.returns-in-Refused
@@ -88,5 +89,5 @@ overflow_add-result c =
     let r = rest_is a.s.now a.place.cursor.at in
     let e = told (goal.at.overflow_add-result c).After-read_in-read _ c.in-Value.is [] in
     let m = count_fits (column (goal.at.overflow_add-result c).Start []) a.s.now a.out.now a.place.cursor.at a.place.copied (c.requires []) _ _ _ refl f r
-        _ _ e in
+    _ _ e in
     record { fits = omega (arith, m, c.copied_of.ensures, c.well_formed) }

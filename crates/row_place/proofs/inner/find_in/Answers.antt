@@ -72,7 +72,7 @@ returns-in-Scalar c =
     let v = scalar_told c.scalar_at-v.result in
     let w = c.bytes_of.ensures in
     let f : took (Value.scalar v) (c.in-Scalar.from + c.bytes_of.result) ≡ read (goal.at.returns-in-Scalar c).After-look-seen = rw
-        (c.scalar_at-v.ensures.told, w) e in
+    (c.scalar_at-v.ensures.told, w) e in
     record {
       told = λ d l. c.placed-in-Scalar.ensures.told ∙ scalar-placed d a.at a.copied _ _ _ f;
       canonical = c.placed-in-Scalar.ensures.canonical;

@@ -18,8 +18,12 @@ told : (c : After-judge_plp-judged) (x : Judged) → c.judge_plp-judged.result �
 told c x e = sym (ap judged_told e) ∙ rw c.is_text.ensures at c.judge_plp-judged.ensures
 
 pub overflow_add-at : goal.overflow_add-at
-overflow_add-at c = omega (arith, c.requires, plp_inside (is_text (content_kind_told c.args.k)) c.args.rest.now _ _
-    (told (goal.at.overflow_add-at c).After-judge_plp-judged _ c.in-Null.is))
+overflow_add-at c = omega (
+  arith,
+  c.requires,
+  plp_inside (is_text (content_kind_told c.args.k)) c.args.rest.now _ _
+      (told (goal.at.overflow_add-at c).After-judge_plp-judged _ c.in-Null.is),
+)
 
 pub returns-then-copied-count : goal.returns-then-copied-count
 returns-then-copied-count c =
@@ -33,7 +37,7 @@ returns-then-copied-count c =
 pub overflow_add-at-in-Content : goal.overflow_add-at-in-Content
 overflow_add-at-in-Content c =
     let i = plp_inside (is_text (content_kind_told c.args.k)) c.args.rest.now _ _ (told (goal.at.overflow_add-at-in-Content c).After-judge_plp-judged _
-        c.in-Content.is) in
+    c.in-Content.is) in
     record { fits = omega (arith, c.requires, i) }
 
 pub placed-requires-in-Content : goal.placed-requires-in-Content

@@ -11,12 +11,18 @@ use Rattle.row_step.proofs.Placing.{place_in, placed-count, placed-room, not_pla
 use Rattle.row_step.proofs.inner.fill_on.Goals as goal
 
 pub slice_bounds-write_value-count : goal.slice_bounds-write_value-count
-slice_bounds-write_value-count c = omega (arith, place_in c.args.out.now c.args.at
-    (write_value (column_told c.args.buffer.now c.args.c) (value_told c.args.buffer.now c.args.v)) c.requires)
+slice_bounds-write_value-count c = omega (
+  arith,
+  place_in c.args.out.now c.args.at
+      (write_value (column_told c.args.buffer.now c.args.c) (value_told c.args.buffer.now c.args.v)) c.requires,
+)
 
 pub slice_bounds-write_value-start : goal.slice_bounds-write_value-start
-slice_bounds-write_value-start c = omega (arith, place_in c.args.out.now c.args.at
-    (write_value (column_told c.args.buffer.now c.args.c) (value_told c.args.buffer.now c.args.v)) c.requires)
+slice_bounds-write_value-start c = omega (
+  arith,
+  place_in c.args.out.now c.args.at
+      (write_value (column_told c.args.buffer.now c.args.c) (value_told c.args.buffer.now c.args.v)) c.requires,
+)
 
 pub returns-in-Bytes : goal.returns-in-Bytes
 returns-in-Bytes c =

@@ -34,7 +34,7 @@ pub returns-in-Refused-size : goal.returns-in-Refused-size
 returns-in-Refused-size c =
     rw c.in-Bytes.is
     (added_refused (write_value (column_told c.args.buffer.now c.args.c) (value_told c.args.buffer.now c.args.v)) c.in-Bytes.at _
-        (sym (ap wrote_told c.in-Refused-size.is) ∙ c.value_size-size.ensures))
+    (sym (ap wrote_told c.in-Refused-size.is) ∙ c.value_size-size.ensures))
 
 pub returns-in-Refused : goal.returns-in-Refused
 returns-in-Refused c = rw c.in-Refused.is

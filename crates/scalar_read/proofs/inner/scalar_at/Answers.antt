@@ -38,7 +38,7 @@ guid_at-requires c = rw c.in-Guid.is at c.requires
 pub returns-in-Bit : goal.returns-in-Bit
 unfolding scalar_of
 returns-in-Bit c =
-     record {
+    record {
       told = rw (c.in-Bit.is, c.truth.ensures, c.low_at.ensures.value);
       canonical = tt;
     }
@@ -46,7 +46,7 @@ returns-in-Bit c =
 pub returns-in-U8 : goal.returns-in-U8
 unfolding scalar_of
 returns-in-U8 c =
-     record {
+    record {
       told = rw (c.in-U8.is, c.low_at-in-U8.ensures.value);
       canonical = tt;
     }
@@ -81,7 +81,7 @@ returns-in-I64 c =
 pub returns-in-F32 : goal.returns-in-F32
 unfolding scalar_of
 returns-in-F32 c =
-     record {
+    record {
       told = rw (c.in-F32.is, ← c.low_at-in-F32.ensures.value) c.float32.ensures.0;
       canonical = c.float32.ensures.1;
     }
@@ -89,7 +89,7 @@ returns-in-F32 c =
 pub returns-in-F64 : goal.returns-in-F64
 unfolding scalar_of
 returns-in-F64 c =
-     record {
+    record {
       told = rw (c.in-F64.is, ← c.low_at-in-F64.ensures.value) c.float64.ensures.0;
       canonical = c.float64.ensures.1;
     }

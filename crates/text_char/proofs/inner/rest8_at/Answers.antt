@@ -58,7 +58,7 @@ returns-then-row-eq1 c =
     let a = c.args in
     rest_three a.s.now a.at a.a _ (row_told a.row) c.six_at.ensures.0
     (second-stands (goal.at.returns-then-row-eq1 c).Else-not-stands) _ c.six_at-2.ensures.0
-        (third-stands (goal.at.returns-then-row-eq1 c).Else-not-stands-2) c.if-row-eq1.true
+    (third-stands (goal.at.returns-then-row-eq1 c).Else-not-stands-2) c.if-row-eq1.true
 
 pub overflow_add-at-3 : goal.overflow_add-at-3
 overflow_add-at-3 c =
@@ -74,7 +74,7 @@ returns-then-not-stands-3 c =
     let a = c.args in
     fourth_not a.s.now a.at a.a _ (row_told a.row) c.six_at.ensures.0
     (second-stands (goal.at.returns-then-not-stands-3 c).Else-not-stands) _ c.six_at-2.ensures.0
-        (third-stands (goal.at.returns-then-not-stands-3 c).Else-not-stands-2) (last-two (goal.at.returns-then-not-stands-3 c).Else-row-eq1)
+    (third-stands (goal.at.returns-then-not-stands-3 c).Else-not-stands-2) (last-two (goal.at.returns-then-not-stands-3 c).Else-row-eq1)
     (sym c.stands-3.ensures ∙ c.if-not-stands-3.true)
 
 fourth-stands : (c : Else-not-stands-3) → let a = c.args in stands_in 0x80 0xBF (drop (a.at + 2) a.s.now) ≡ true
@@ -95,5 +95,5 @@ returns c =
     let a = c.args in
     rest_four a.s.now a.at a.a _ (row_told a.row) c.six_at.ensures.0
     (second-stands (goal.at.returns c).Else-not-stands) _ c.six_at-2.ensures.0 (third-stands (goal.at.returns c).Else-not-stands-2) _ c.six_at-3.ensures.0
-        (last-two (goal.at.returns c).Else-row-eq1)
+    (last-two (goal.at.returns c).Else-row-eq1)
     (fourth-stands (goal.at.returns c).Else-not-stands-3)

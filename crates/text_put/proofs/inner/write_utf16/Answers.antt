@@ -24,8 +24,14 @@ fits c = let a = c.args in fits_given (text_in a.s.now) (length a.out.now) c.req
 pub loop-at-init : goal.loop-at-init
 loop-at-init c =
     let s = c.args.s.now in
-    record { inside = search rules; within = search rules; same = refl; holds = front_none _ _; left = in_gives s (given (text_in s))
-        (fits (goal.at.loop-at-init c).Start).0 }
+    record {
+      inside = search rules;
+      within = search rules;
+      same = refl;
+      holds = front_none _ _;
+      left = in_gives s (given (text_in s))
+          (fits (goal.at.loop-at-init c).Start).0;
+    }
 
 -- the character that was read
 read : (c : In-Char) → Stands char8 c.args.s.now c.loop-at.at c.in-Char.c c.in-Char.k

@@ -25,8 +25,14 @@ fits c = let a = c.args in fits_given (text_out a.u.now) (length a.out.now) c.re
 pub loop-at-init : goal.loop-at-init
 loop-at-init c =
     let u = c.args.u.now in
-    record { inside = search rules; within = search rules; same = refl; holds = front_none _ _; left = out_gives u (given (text_out u))
-        (fits (goal.at.loop-at-init c).Start).0 }
+    record {
+      inside = search rules;
+      within = search rules;
+      same = refl;
+      holds = front_none _ _;
+      left = out_gives u (given (text_out u))
+          (fits (goal.at.loop-at-init c).Start).0;
+    }
 
 bytes : (c : At-loop-at) → Bytes c.args.u.now
 bytes c i = omega (arith, c.type_inv.u i)
@@ -41,8 +47,10 @@ read c =
     (sym (ap char_told c.in-Char.is) ∙ c.char16_at-t.ensures)
 
 pub put_char8-o-requires : goal.put_char8-o-requires
-put_char8-o-requires c = (last16 (bytes (goal.at.put_char8-o-requires c).At-loop-at) (read (goal.at.put_char8-o-requires c).In-Char),
-    write_room c.loop-at.invariant (read (goal.at.put_char8-o-requires c).In-Char) (fits (goal.at.put_char8-o-requires c).Start).1)
+put_char8-o-requires c = (
+  last16 (bytes (goal.at.put_char8-o-requires c).At-loop-at) (read (goal.at.put_char8-o-requires c).In-Char),
+  write_room c.loop-at.invariant (read (goal.at.put_char8-o-requires c).In-Char) (fits (goal.at.put_char8-o-requires c).Start).1,
+)
 
 pub loop-at-preserved : goal.loop-at-preserved
 loop-at-preserved c = write_more c.loop-at.invariant (read (goal.at.loop-at-preserved c).In-Char) (fits (goal.at.loop-at-preserved c).Start).1

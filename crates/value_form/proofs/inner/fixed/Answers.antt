@@ -28,7 +28,7 @@ pub returns-then-same_kind : goal.returns-then-same_kind
 returns-then-same_kind c d =
     let a = c.args in
     c.bit.ensures ∙ fixed-bit (kind_told a.k) a.rest.now d (is-bit (goal.at.returns-then-same_kind c).Then-same_kind)
-        (omega (arith, inside (goal.at.returns-then-same_kind c).Start, ap width (is-bit (goal.at.returns-then-same_kind c).Then-same_kind)))
+    (omega (arith, inside (goal.at.returns-then-same_kind c).Start, ap width (is-bit (goal.at.returns-then-same_kind c).Then-same_kind)))
 
 pub returns : goal.returns
 returns c d =

@@ -22,12 +22,12 @@ pub returns-then-n : goal.returns-then-n
 returns-then-n c =
     let a = c.args in
     short_null_lem (content_kind_told a.k) a.declared a.rest.now c.requires.0 (there (goal.at.returns-then-n c).Start)
-        (bytes (goal.at.returns-then-n c).After-shared_slice_known-1) _
+    (bytes (goal.at.returns-then-n c).After-shared_slice_known-1) _
     c.low_at-n.ensures.value c.if-n.true
 
 pub returns : goal.returns
 returns c =
     let a = c.args in
     short_same (content_kind_told a.k) a.declared a.rest.now c.requires.0 (there (goal.at.returns c).Start)
-        (bytes (goal.at.returns c).After-shared_slice_known-1) _ c.low_at-n.ensures.value
+    (bytes (goal.at.returns c).After-shared_slice_known-1) _ c.low_at-n.ensures.value
     c.if-n.false c.requires.1

@@ -27,7 +27,7 @@ pub form-form-requires : goal.form-form-requires
 form-form-requires c =
     let a = c.args in
     rw (rest_is a.s.now a.run.at) (fits_read a.s.now (length a.out.now) a.run
-        (normal_in c.args.declared (family_told c.args.f) (drop c.args.run.at c.args.s.now)) c.requires)
+    (normal_in c.args.declared (family_told c.args.f) (drop c.args.run.at c.args.s.now)) c.requires)
 
 -- what its form tells, of the rest from the place on
 told : (c : After-form-form) (x : Form) → c.form-form.result ≡ x → form_told (drop c.args.run.at c.args.s.now) x
@@ -41,21 +41,29 @@ pub overflow_add-result : goal.overflow_add-result
 overflow_add-result c =
     let a = c.args in
     let e = told (goal.at.overflow_add-result c).After-form-form _ c.in-Same.is in
-    omega (arith, same_inside a.s.now a.out.now a.run (normal_in c.args.declared (family_told c.args.f) (drop c.args.run.at c.args.s.now)) c.requires
-        c.in-Same.n e, c.well_formed)
+    omega (
+      arith,
+      same_inside a.s.now a.out.now a.run (normal_in c.args.declared (family_told c.args.f) (drop c.args.run.at c.args.s.now)) c.requires
+          c.in-Same.n e,
+      c.well_formed,
+    )
 
 pub overflow_add-at : goal.overflow_add-at
 overflow_add-at c =
     let a = c.args in
     let e = told (goal.at.overflow_add-at c).After-form-form _ c.in-Bit.is in
-    omega (arith, (bit_asks a.s.now a.out.now a.run (normal_in c.args.declared (family_told c.args.f) (drop c.args.run.at c.args.s.now)) c.requires
-        c.in-Bit.start e).1, c.well_formed)
+    omega (
+      arith,
+      (bit_asks a.s.now a.out.now a.run (normal_in c.args.declared (family_told c.args.f) (drop c.args.run.at c.args.s.now)) c.requires
+          c.in-Bit.start e).1,
+      c.well_formed,
+    )
 
 pub bit_in-requires : goal.bit_in-requires
 bit_in-requires c =
     let a = c.args in
     bit_asks a.s.now a.out.now a.run (normal_in c.args.declared (family_told c.args.f) (drop c.args.run.at c.args.s.now)) c.requires _
-        (told (goal.at.bit_in-requires c).After-form-form _ c.in-Bit.is)
+    (told (goal.at.bit_in-requires c).After-form-form _ c.in-Bit.is)
 
 pub plp_in-requires : goal.plp_in-requires
 plp_in-requires c =
@@ -66,13 +74,13 @@ pub returns-in-Same : goal.returns-in-Same
 returns-in-Same c =
     let a = c.args in
     same_grows a.s.now a.out.now a.run (normal_in c.args.declared (family_told c.args.f) (drop c.args.run.at c.args.s.now)) c.requires _
-        (told (goal.at.returns-in-Same c).After-form-form _ c.in-Same.is)
+    (told (goal.at.returns-in-Same c).After-form-form _ c.in-Same.is)
 
 pub returns-in-Bit : goal.returns-in-Bit
 returns-in-Bit c =
     let a = c.args in
     bit_grows a.s.now a.out.now a.run (normal_in c.args.declared (family_told c.args.f) (drop c.args.run.at c.args.s.now)) c.requires _
-        (told (goal.at.returns-in-Bit c).After-form-form _ c.in-Bit.is) _ _
+    (told (goal.at.returns-in-Bit c).After-form-form _ c.in-Bit.is) _ _
     c.bit_in.ensures.0 c.bit_in.ensures.1
 
 pub returns-in-Plp : goal.returns-in-Plp

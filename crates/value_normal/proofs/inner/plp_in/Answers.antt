@@ -39,8 +39,12 @@ judged c j e =
 pub overflow_add-result : goal.overflow_add-result
 overflow_add-result c =
     let a = c.args in
-    omega (arith, null-inside a.text a.s.now a.out.now a.run (bytes (goal.at.overflow_add-result c).After-judge_plp-judged)
-        (judged (goal.at.overflow_add-result c).After-judge_plp-judged _ c.in-Null.is) c.requires, c.well_formed)
+    omega (
+      arith,
+      null-inside a.text a.s.now a.out.now a.run (bytes (goal.at.overflow_add-result c).After-judge_plp-judged)
+          (judged (goal.at.overflow_add-result c).After-judge_plp-judged _ c.in-Null.is) c.requires,
+      c.well_formed,
+    )
 
 pub content_in-requires : goal.content_in-requires
 content_in-requires c = (judged (goal.at.content_in-requires c).After-judge_plp-judged _ c.in-Content.is, c.requires)
@@ -49,10 +53,10 @@ pub returns-in-Null : goal.returns-in-Null
 returns-in-Null c =
     let a = c.args in
     null_grows a.text a.s.now a.out.now a.run (bytes (goal.at.returns-in-Null c).After-judge_plp-judged)
-        (judged (goal.at.returns-in-Null c).After-judge_plp-judged _ c.in-Null.is) c.requires
+    (judged (goal.at.returns-in-Null c).After-judge_plp-judged _ c.in-Null.is) c.requires
 
 pub returns-in-Refused : goal.returns-in-Refused
 returns-in-Refused c =
     let a = c.args in
     not_refused a.s.now (length a.out.now) a.run (read_plp c.args.text (drop c.args.run.at c.args.s.now)) _
-        (judged (goal.at.returns-in-Refused c).After-judge_plp-judged _ c.in-Refused.is) c.requires
+    (judged (goal.at.returns-in-Refused c).After-judge_plp-judged _ c.in-Refused.is) c.requires

@@ -1,0 +1,28 @@
+-- `board_column_read::read_any` meets its contract: the record of a column that was read and its names' places. Assumes nothing.
+use mathlib.Core.Path.{refl, sym, ap, ◌∙◌, subst}
+use Prim.Native.Nat.{◌+◌}
+use Rattle.column_type.specs.Told.{column_read_told, NamesFrom}
+use Rattle.board_column_read.proofs.Laws.{leaves_column, leaves_nothing}
+use Rattle.board_column_read.proofs.read_any.Goals as goal
+
+pub returns-in-Column : goal.returns-in-Column
+returns-in-Column c =
+    let a = c.args in
+    let s = a.bytes.now in
+    let all = leaves_column _ s a.at a.index _ a.column.now _ a.names.now _ _ _ (sym (ap (column_read_told s) c.in-Column.is) ∙ c.read_column-read.ensures.told)
+    (subst (NamesFrom s (a.at + 3)) c.in-Column.is c.read_column-read.ensures.names) c.at.ensures c.record_of.ensures c.names_of.ensures in record {
+      answer = all.0;
+      column = all.1.0;
+      names = all.1.1;
+    }
+
+pub returns-in-Refused : goal.returns-in-Refused
+returns-in-Refused c =
+    let a = c.args in
+    let s = a.bytes.now in
+    let all = leaves_nothing _ s a.at a.index _ a.column.now _ a.names.now _ _
+    (sym (ap (column_read_told s) c.in-Refused.is) ∙ c.read_column-read.ensures.told) c.refused.ensures refl refl in record {
+      answer = all.0;
+      column = all.1.0;
+      names = all.1.1;
+    }
