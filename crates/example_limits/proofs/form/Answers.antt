@@ -1,0 +1,7 @@
+-- A normal form that was answered fits the room.
+use Rattle.std.proofs.Common.{[]}
+use Rattle.normal_step.proofs.Fits.{count_fits}
+use Rattle.example_limits.proofs.form.Goals as goal
+
+pub returns-in-Bytes : goal.returns-in-Bytes
+returns-in-Bytes c = count_fits _ _ _ _ (c.in-Bytes.ensures.answer [])
