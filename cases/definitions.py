@@ -55,7 +55,7 @@ CANARY = [
     ('Header', 'packet_statuses = 0 ∷ 1 ∷ 3 ∷ 8 ∷ 16 ∷ []', 'packet_statuses = 0 ∷ 1 ∷ 2 ∷ 3 ∷ 8 ∷ 16 ∷ []', ['own-3000246']),
     ('Descriptor', 'schema_fits (byte_len t) (some n) = false', 'schema_fits (byte_len t) (some n) = true', ['own-3000565']),
     ('Descriptor', 'name_fits w (inside s) = both (eqb (length s % 2) 0) (ltb (length s / 2) (256 ^ w))',
-     'name_fits w (inside s) = both (eqb (length s % 2) 0) (ltb (length s / 2) (256 ^ w + 1))', ['own-3000619', 'own-3000621']),
+     'name_fits w (inside s) = both (eqb (length s % 2) 0) (ltb (length s / 2) (Rattle.std.specs.Prelude.suc (256 ^ w)))', ['own-3000619', 'own-3000621']),
     ('Plp', 'opened_at total text at = record { at = at; sum = 0; total = total; text = text; ended = false }',
      'opened_at total text at = record { at = at; sum = 0; total = total; text = text; ended = true }', ['public-20158']),
     ('Value', 'untyped_string = 4000', 'untyped_string = 4001', ['own-3000686', 'own-3000688']),
