@@ -140,7 +140,7 @@ def record_places(root):
     text = (root / 'crates/packed/specs/Packed.antt').read_text()
     body = ' '.join(re.search(r'(?m)^record_of c index =\n((?: +.*\n)+)', text)[1].split())
     for part in ('collation_places', 'index_places'):
-        present = re.search(r'(?m)^%s \(some \w+\)(?: index)? = (.*)$' % part, text)[1]
+        present = re.search(r'(?m)^%s \(Some \w+\)(?: index)? = (.*)$' % part, text)[1]
         body = re.sub(r'%s c\.\w+(?: index)?' % part, lambda _: present, body)
     found = []
     for typed, flags, width, wide, single, zero in PLACES.findall(body):
@@ -159,8 +159,8 @@ def number_faults(root, text, rust_text):
     constants = {name: int(number, 0) for name, number in re.findall(r'pub const (\w+): \w+ = (0x[0-9A-F]+|\d+);', rust_text)}
     for name in sorted(set(listed.items()) ^ set(constants.items())):
         yield '%s is %d in C or Rust alone' % name
-    answers = (root / 'crates/board_answer/src/lib.rt').read_text()
-    refusals = {re.sub(r'(?<!^)(?=[A-Z])', '_', name).upper(): int(number) for name, number in re.findall(r'Refusal::(\w+) => (\d),', answers)}
+    declared = re.search(r'(?s)enum Refusal \{(.*?)\}', (root / 'crates/wire/src/lib.rt').read_text())[1]
+    refusals = {re.sub(r'(?<!^)(?=[A-Z])', '_', name).upper(): int(number) for name, number in re.findall(r'(\w+) = (\d),', declared)}
     types = {'TYPE_' + name.upper(): int(number, 16) for name, number in re.findall(r'::(\w+) => 0x(\w\w),', (root / 'crates/column_byte/src/lib.rt').read_text())}
     if len(refusals) != 9 or len(types) != 36:
         yield 'the source has %d refusals and %d type bytes where they are looked for' % (len(refusals), len(types))

@@ -133,7 +133,7 @@ def row_faults(cells, exported, sources, uses, wrong):
     if (reads := re.search(r'\broom_after\w+', contract)) and reads[0] not in cells[2]:
         yield '%s has a room, and its row does not say %s' % (call, reads[0])
     if cells[2].startswith('W of ') or re.search(r'\broom_after\b', contract):
-        said += ['wrote_told', 'wrote', 'fitted', 'room_after']
+        said += ['answer_told', 'wrote', 'fitted', 'room_after']
         if not cells[2].startswith('W of '):
             yield '%s has a room, and its row does not say W' % call
     yield from contract_faults(call, contract, said)

@@ -40,16 +40,16 @@ WRONG_NAMES = [
 
 NAMES_AND_LISTS = [
     # calls and types
-    Sabotage('crates/header/src/lib.rt', 'pub fn type_byte(', 'pub fn stray() {}\n\npub fn type_byte(', 'header::stray is a `pub fn` on neither list'),
+    Sabotage('crates/header/src/lib.rt', 'pub fn read_header(', 'pub fn stray() {}\n\npub fn read_header(', 'header::stray is a `pub fn` on neither list'),
     Sabotage('crates/cursor/src/lib.rt', '    pub fn high(', '    pub fn stray(self) {}\n\n    pub fn high(', 'morelquilt::Cursor::stray is not listed'),
-    Sabotage('crates/morelquilt/src/lib.rt', 'pub use header::{Header, ', 'pub use header::{Header, type_of, ', 'morelquilt::type_of is not listed'),
+    Sabotage('crates/morelquilt/src/lib.rt', 'pub use header::{Header, ', 'pub use header::{Header, read_header, ', 'morelquilt::read_header is not listed'),
     Sabotage('crates/morelquilt/src/lib.rt', 'pub use text::{to_utf8, ', 'pub use text::{', 'morelquilt::to_utf8 is listed, and not handed on'),
     Sabotage('crates/morelquilt/src/lib.rt', 'pub use wire::{Guid, ', 'pub use wire::{', 'the type morelquilt::Guid is listed, and not handed on'),
     Sabotage('crates/prelogin/src/lib.rt', 'pub fn write_prelogin(', 'pub(crate) fn write_prelogin(', 'morelquilt hands on morelquilt::write_prelogin, which is not public'),
     Sabotage('crates/column_rule/src/lib.rt', 'pub fn names_fit(', 'fn names_fit(', 'there is no public call, type or module column_rule::names_fit'),
     Sabotage('crates/text_lead/src/lib.rt', 'pub fn within(low: u32, high: u32, n: u32) -> bool\n',
              'pub fn within(low: u32, high: u32, n: u32) -> bool\n    requires { low ≤ high }\n', 'text_lead::within has a `requires`'),
-    Sabotage('crates/text/src/lib.rt', '    ensures { wrote_told result ≡ wrote (text_in s.now) }\n{', '{', 'morelquilt::utf16_size has no contract'),
+    Sabotage('crates/text/src/lib.rt', '    ensures { answer_told result ≡ wrote (text_in s.now) }\n{', '{', 'morelquilt::utf16_size has no contract'),
     Sabotage('crates/format/specs/Guid.antt', '-- ', '-- %s ' % ('long ' * 40), 'crates/format/specs/Guid.antt:1: '),
     # docs/PUBLIC.md
     Sabotage('docs/PUBLIC.md', ', `morelquilt::Span`', '', 'the type morelquilt::Span is not listed'),
@@ -74,10 +74,10 @@ NAMES_AND_LISTS = [
     Sabotage('docs/PUBLIC.md', '| R of `walk_at text s at` |', '| `result ≡ counted (place (walk_at text s at))` |', 'morelquilt_walk_open: its row does not say after'),
     Sabotage('docs/PUBLIC.md', ', and the walk afterwards ≡ `walk_after (walk_step allowed s walk) walk`', '', 'morelquilt_walk_step: its row does not say walk_after'),
     Sabotage('docs/PUBLIC.md', ', and the names afterwards ≡ `after (spans_at s at) names`', '', 'morelquilt_column_read: its row does not say spans_at'),
-    Sabotage('docs/PUBLIC.md', '`board_packet!three_refused`, ', '', 'morelquilt_prelogin_write has 1 must-fail edits'),
+    Sabotage('docs/PUBLIC.md', '`prelogin!three_refused`, ', '', 'morelquilt_prelogin_write has 1 must-fail edits'),
     # edits and crates
     Sabotage('crates/header/must-fail/id_twice.edit', '', None, 'there is no must-fail edit header!id_twice'),
-    Sabotage('crates/header/must-fail/seven_written.edit', 'old: Wrote::Bytes(8)', 'old: Wrote::Bytes(88)',
+    Sabotage('crates/header/must-fail/seven_written.edit', 'old: Ok(8)', 'old: Ok(88)',
              'crates/header/must-fail/seven_written.edit: its old line stands 0 times'),
     # what README.md shows
     Sabotage('README.md', '     1  int                   4711\n', '     1  int                   4712\n', './show samples/corridor.tds does not print what is shown'),

@@ -42,8 +42,7 @@ NAMES = {
     'Normal': '',
 }
 HEAD = '''use mathlib.Core.Path.{◌≡◌, refl}
-use Rattle.std.specs.Prelude.{ℕ, List, [], ◌∷◌, true, false, pos, negsuc}
-use Rattle.std.proofs.Math.Option.{none, some}
+use Rattle.std.specs.Prelude.{ℕ, List, [], ◌∷◌, true, false, pos, negsuc, None, Some}
 use Rattle.%s.specs.Line.{rep, run, run_two, filler, named, Line, ok, no, line, writing, copying, reading, read_guid}
 '''
 # Definitions changed in the canary's copy: the file, the line, what stands there instead, and the cases that must then be refused.
@@ -53,7 +52,7 @@ CANARY = [
     ('Answer', 'room_after_read copied (stops e) out = out', 'room_after_read copied (stops e) out = drop 1 out', ['public-3971']),
     ('Answer', 'room_after_read copied (took v n) out = copied v ++ drop (length (copied v)) out', 'room_after_read copied (took v n) out = out', ['public-6132']),
     ('Header', 'packet_statuses = 0 ∷ 1 ∷ 3 ∷ 8 ∷ 16 ∷ []', 'packet_statuses = 0 ∷ 1 ∷ 2 ∷ 3 ∷ 8 ∷ 16 ∷ []', ['own-3000246']),
-    ('Descriptor', 'schema_fits (byte_len t) (some n) = false', 'schema_fits (byte_len t) (some n) = true', ['own-3000565']),
+    ('Descriptor', 'schema_fits (byte_len t) (Some n) = false', 'schema_fits (byte_len t) (Some n) = true', ['own-3000565']),
     ('Descriptor', 'name_fits w (inside s) = both (eqb (length s % 2) 0) (ltb (length s / 2) (256 ^ w))',
      'name_fits w (inside s) = both (eqb (length s % 2) 0) (ltb (length s / 2) (Rattle.std.specs.Prelude.suc (256 ^ w)))', ['own-3000619', 'own-3000621']),
     ('Plp', 'opened_at total text at = record { at = at; sum = 0; total = total; text = text; ended = false }',

@@ -114,7 +114,7 @@ def truth(b):
 
 
 def option(term):
-    return 'none' if term is None else '(some %s)' % term
+    return 'None' if term is None else '(Some %s)' % term
 
 
 def record(**fields):

@@ -3,11 +3,11 @@
 #![tactic(auto)]
 
 ghost use Rattle.std.specs.Prelude.{◌≡◌};
-ghost use Rattle.format.specs.Answer.{gives, refuses, unknown, number};
-ghost use Rattle.wire.specs.Told.{refusal_told, wrote_told};
+ghost use Rattle.format.specs.Answer.{gives, refuses, unknown};
+ghost use Rattle.wire.specs.Told.{refusal_told, answer_told};
 ghost use Rattle.board_answer.specs.Told.{counted};
 
-use wire::{Refusal, Wrote};
+use wire::Refusal;
 
 // Refusal 0 and a count, or a refusal's number and 0.
 #[repr(C)]
@@ -17,29 +17,12 @@ pub struct Counted {
     pub count: u64,
 }
 
-// The refusal's number in document 01's table.
-fn refusal_number(e: Refusal) -> u64
-    ensures { result ≡ number (refusal_told e) }
-{
-    match e {
-        Refusal::Missing => 1,
-        Refusal::Unknown => 2,
-        Refusal::Kind => 3,
-        Refusal::Room => 4,
-        Refusal::Long => 5,
-        Refusal::Rule => 6,
-        Refusal::NotCarried => 7,
-        Refusal::Sequence => 8,
-        Refusal::NotText => 9,
-    }
-}
-
 // A refusal.
 pub fn refused(e: Refusal) -> Counted
     ensures { result ≡ counted (refuses (refusal_told e)) }
 {
     Counted {
-        refusal: refusal_number(e),
+        refusal: u64::from(e.number()),
         count: 0,
     }
 }
@@ -69,11 +52,11 @@ pub fn at(next: usize) -> Counted
 }
 
 // What a writer answers.
-pub fn answer(w: Wrote) -> Counted
-    ensures { result ≡ counted (wrote_told w) }
+pub fn answer(w: Result<usize, Refusal>) -> Counted
+    ensures { result ≡ counted (answer_told w) }
 {
     match w {
-        Wrote::Bytes(n) => count(n as u64),
-        Wrote::Refused(e) => refused(e),
+        Ok(n) => count(n as u64),
+        Err(e) => refused(e),
     }
 }

@@ -1,8 +1,9 @@
 -- A column that was read: the bytes made of it are its record, and the spans of its names are where they stand in the input.
 -- Assumes nothing.
+use Rattle.std.specs.Prelude.{Option, Some}
+use Rattle.std.specs.Prelude.{None}
 use mathlib.Core.Path.{◌≡◌, refl, sym, ap, ◌∙◌}
 use mathlib.Core.List.{List}
-use mathlib.Core.Option.{none}
 use Prim.Native.Nat.{ℕ, ◌+◌, ◌/◌}
 use native.Mathlib.Omega.{arith}
 use lib.ListN.{length}
@@ -10,9 +11,7 @@ use Rattle.format.specs.Answer.{Refusal, gives, refuses, Read, took, stops, map_
 use Rattle.format.specs.Descriptor as D
 use Rattle.column_type.specs.declared.Name.{Name}
 use Rattle.column_type.specs.declared.Collation.{Collation}
-use Rattle.column_type.specs.declared.Collation.TheVariants as C
 use Rattle.column_type.specs.declared.Schema.{Schema}
-use Rattle.column_type.specs.declared.Schema.TheVariants as S
 use Rattle.column_type.specs.declared.Column.{Column}
 use Rattle.column_type.specs.Told.{name_told, name_bytes, schema_told, column_told, NameIn, SchemaFrom}
 use Rattle.column_type.proofs.ReadLaws.{name-inside}
@@ -26,15 +25,15 @@ use Rattle.board_column_read.specs.Made.{record_made, names_made}
 -- ---- the record
 
 module _ (s : List ℕ) (c : Column) (index : ℕ) where
-  abbrev made : Collation → Schema → Column
+  abbrev made : Option Collation → Option Schema → Column
   made x y = record { ty = c.ty; length = c.length; precision = c.precision; scale = c.scale; collation = x; schema = y }
 
-  each : (x : Collation) (y : Schema) → record_made (made x y) index ≡ record_of (column_told s (made x y)) index
+  each : (x : Option Collation) (y : Option Schema) → record_made (made x y) index ≡ record_of (column_told s (made x y)) index
   unfolding record_made record_of
-  each C.None S.None = refl
-  each C.None (S.Names d o n) = refl
-  each (C.Of i b) S.None = refl
-  each (C.Of i b) (S.Names d o n) = refl
+  each None None = refl
+  each None (Some n) = refl
+  each (Some k) None = refl
+  each (Some k) (Some n) = refl
 
   record_is : record_made c index ≡ record_of (column_told s c) index
   record_is = each c.collation c.schema
@@ -48,10 +47,17 @@ module _ (s : List ℕ) where
       let half : length (name_bytes s n) / 2 ≡ n.units = omega arith in
       ap units (name-inside s n h) ∙ half
 
-  spans_are : (at : ℕ) (y : Schema) → SchemaFrom s (at + 3) y → names_made y ≡ schema_spans at (schema_told s y)
-  spans_are at S.None h = refl
-  spans_are at (S.Names a b c) h =
-      rw (units_are a (omega (arith, h)), units_are b (omega (arith, h)), units_are c h.3, h.2, h.1, h.0)
+  spans_are : (at : ℕ) (y : Option Schema) → SchemaFrom s (at + 3) y → names_made y ≡ schema_spans at (schema_told s y)
+  spans_are at None h = refl
+  spans_are at (Some n) h =
+      rw (
+        units_are n.database (omega (arith, h)),
+        units_are n.owner (omega (arith, h)),
+        units_are n.collection h.3,
+        h.2,
+        h.1,
+        h.0,
+      )
 
 -- ---- what reading answers and leaves: a column, or nothing
 
@@ -76,8 +82,8 @@ module _ (r : Counted) (s : List ℕ) (at index : ℕ) (new column spans names :
   leaves_column c next e h a n m = leaves (took (column_told s c) next) e a (n ∙ record_is s c index) (m ∙ spans_are s at c.schema h)
 
   -- a column without names
-  pub leaves_bare : (c : D.Column) (next : ℕ) → took c next ≡ read → c.schema ≡ none → r ≡ counted (gives next) → new ≡ record_of c index →
-      spans ≡ schema_spans at none → Leaves
+  pub leaves_bare : (c : D.Column) (next : ℕ) → took c next ≡ read → c.schema ≡ None → r ≡ counted (gives next) → new ≡ record_of c index →
+      spans ≡ schema_spans at None → Leaves
   leaves_bare c next e h a n m = leaves (took c next) e a n (m ∙ ap (schema_spans at) (sym h))
 
   pub leaves_nothing : (e : Refusal) → stops e ≡ read → r ≡ counted (refuses e) → new ≡ column → spans ≡ names → Leaves

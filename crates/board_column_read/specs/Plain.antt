@@ -1,6 +1,5 @@
 -- A column's descriptor that was read, as a record of 16 bytes, and beside it six numbers: start and units of XML_INFO's three names.
-use Rattle.std.specs.Prelude.{ℕ, ◌+◌, ◌*◌, ◌/◌, List, [], ◌∷◌, length}
-use Rattle.std.proofs.Math.Option.{Option, none, some}
+use Rattle.std.specs.Prelude.{ℕ, ◌+◌, ◌*◌, ◌/◌, List, [], ◌∷◌, length, None, Option, Some}
 use Rattle.format.specs.Answer.{Read, map_read, read_at, Part, inside, outside}
 use Rattle.format.specs.Descriptor.{Schema, read_column}
 use Rattle.packed.specs.Packed.{record_of}
@@ -22,8 +21,8 @@ spans start a b c = start ∷ a ∷ (start + 2 * a + 1) ∷ b ∷ (start + 2 * a
 
 -- the first stands behind the type byte, the marker and a count of one byte
 abbrev pub schema_spans : ℕ → Option Schema → List ℕ
-schema_spans at none = 0 ∷ 0 ∷ 0 ∷ 0 ∷ 0 ∷ 0 ∷ []
-schema_spans at (some n) = spans (at + 3) (units n.database) (units n.owner) (units n.collection)
+schema_spans at None = 0 ∷ 0 ∷ 0 ∷ 0 ∷ 0 ∷ 0 ∷ []
+schema_spans at (Some n) = spans (at + 3) (units n.database) (units n.owner) (units n.collection)
 
 abbrev pub spans_at : List ℕ → ℕ → Read (List ℕ)
 spans_at s at = map_read (λ c. schema_spans at c.schema) (read_at read_column s at)

@@ -9,57 +9,57 @@ ghost use Rattle.board_column_read.specs.Plain.{record_at, spans_at};
 ghost use Rattle.board_column_read.specs.Made as M;
 
 use board_answer::Counted;
-use column_type::{Collation, Column, ColumnRead, Schema};
+use column_type::{Collation, Column, Schema};
 use wire::Cursor;
 
 // Bit 1 of the flags: names are present.
-fn schema_flag(schema: Schema) -> u8
+fn schema_flag(schema: Option<Schema>) -> u8
     ensures { (result ≡ M.schema_flag schema) × (result ≤ 2) }
 {
     match schema {
-        Schema::None => 0,
-        Schema::Names(_, _, _) => 2,
+        None => 0,
+        Some(_) => 2,
     }
 }
 
 // The flags: bit 0, a collation is present; bit 1.
-fn flags(collation: Collation, schema: Schema) -> u8
+fn flags(collation: Option<Collation>, schema: Option<Schema>) -> u8
     ensures { result ≡ M.flags collation schema }
 {
     let names = schema_flag(schema);
     match collation {
-        Collation::None => names,
-        Collation::Of(_, _) => 1 + names,
+        None => names,
+        Some(_) => 1 + names,
     }
 }
 
 // The collation's number, 0 where there is none.
-fn info(collation: Collation) -> u64
+fn info(collation: Option<Collation>) -> u64
     ensures { result ≡ M.info collation }
 {
     match collation {
-        Collation::None => 0,
-        Collation::Of(n, _) => n as u64,
+        None => 0,
+        Some(Collation { info: n, .. }) => n as u64,
     }
 }
 
 // Its sort byte, 0 where there is none.
-fn sort(collation: Collation) -> u8
+fn sort(collation: Option<Collation>) -> u8
     ensures { result ≡ M.sort collation }
 {
     match collation {
-        Collation::None => 0,
-        Collation::Of(_, b) => b,
+        None => 0,
+        Some(Collation { sort: b, .. }) => b,
     }
 }
 
 // The index of the names, 0 where there are none.
-fn index_of(schema: Schema, index: u16) -> u64
+fn index_of(schema: Option<Schema>, index: u16) -> u64
     ensures { result ≡ M.index_of schema index }
 {
     match schema {
-        Schema::None => 0,
-        Schema::Names(_, _, _) => index as u64,
+        None => 0,
+        Some(_) => index as u64,
     }
 }
 
@@ -101,12 +101,18 @@ fn record_of(c: Column, index: u16) -> [u8; 16]
 }
 
 // Start and units of the three names.
-fn names_of(schema: Schema) -> [u64; 6]
+fn names_of(schema: Option<Schema>) -> [u64; 6]
     ensures { result ≡ M.names_made schema }
 {
     match schema {
-        Schema::None => [0, 0, 0, 0, 0, 0],
-        Schema::Names(a, b, c) => [
+        None => [0, 0, 0, 0, 0, 0],
+        Some(
+            Schema {
+                database: a,
+                owner: b,
+                collection: c,
+            },
+        ) => [
             a.start as u64,
             a.units as u64,
             b.start as u64,
@@ -131,13 +137,13 @@ fn read_any(
 {
     let read = column_read::read_column(bytes, Cursor { at });
     match read {
-        ColumnRead::Column(c, next) => {
+        Ok((c, next)) => {
             let schema = c.schema;
             *column = record_of(c, index);
             *names = names_of(schema);
             board_answer::at(next.at)
         }
-        ColumnRead::Refused(e) => board_answer::refused(e),
+        Err(e) => board_answer::refused(e),
     }
 }
 

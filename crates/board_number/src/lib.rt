@@ -5,38 +5,31 @@
 ghost use Rattle.std.specs.Prelude.{◌≡◌, length};
 ghost use Rattle.format.specs.Answer.{gives, read_at, fitted, wrote, room_after};
 ghost use Rattle.format.specs.Guid.{guid_order};
-ghost use Rattle.wire.specs.Told.{width_of, number_told, guid_bytes};
+ghost use Rattle.wire.specs.Told.{width_of, read_told, guid_bytes};
 ghost use Rattle.header.specs.Told.{known};
 ghost use Rattle.board_answer.specs.Told.{counted, place, after};
 ghost use Rattle.board_number.specs.Plain.{widths, number_by, number_at, guid_at};
 ghost use Rattle.board_number.specs.Told.{width_told};
 
 use board_answer::Counted;
-use wire::{Cursor, Guid, GuidRead, NumberRead, Width};
-
-// The width of a count of bytes, where there is one.
-#[derive(Clone, Copy)]
-enum WidthGiven {
-    Width(Width),
-    Unknown,
-}
+use wire::{Cursor, Guid, Refusal, Width};
 
 // The width of a count of bytes.
-fn width_of(n: u8) -> WidthGiven
+fn width_of(n: u8) -> Option<Width>
     ensures { width_told result ≡ known widths n }
 {
     match n {
-        1 => WidthGiven::Width(Width::One),
-        2 => WidthGiven::Width(Width::Two),
-        4 => WidthGiven::Width(Width::Four),
-        8 => WidthGiven::Width(Width::Eight),
-        _ => WidthGiven::Unknown,
+        1 => Some(Width::One),
+        2 => Some(Width::Two),
+        4 => Some(Width::Four),
+        8 => Some(Width::Eight),
+        _ => None,
     }
 }
 
 // The number at a place, in one of the two orders.
-fn read_number(bytes: &[u8], from: Cursor, w: Width, high: u8) -> NumberRead
-    ensures { number_told result ≡ read_at (number_by high (width_of w)) bytes.now from.at }
+fn read_number(bytes: &[u8], from: Cursor, w: Width, high: u8) -> Result<(u64, Cursor), Refusal>
+    ensures { read_told result ≡ read_at (number_by high (width_of w)) bytes.now from.at }
 {
     if high == 1 {
         return from.high(bytes, w);
@@ -49,7 +42,7 @@ pub fn number_read(bytes: &[u8], at: usize, width: u8, high: u8, to: &mut u64) -
     ensures answer { result ≡ counted (place (number_at width high bytes.now at)) }
     ensures room { to.new ≡ after (number_at width high bytes.now at) to.old }
 {
-    let WidthGiven::Width(w) = width_of(width) else {
+    let Some(w) = width_of(width) else {
         return board_answer::unknown();
     };
     if 1 < high {
@@ -57,11 +50,11 @@ pub fn number_read(bytes: &[u8], at: usize, width: u8, high: u8, to: &mut u64) -
     }
     let read = read_number(bytes, Cursor { at }, w, high);
     match read {
-        NumberRead::Number(n, next) => {
+        Ok((n, next)) => {
             *to = n;
             board_answer::at(next.at)
         }
-        NumberRead::Refused(e) => board_answer::refused(e),
+        Err(e) => board_answer::refused(e),
     }
 }
 
@@ -81,11 +74,11 @@ pub fn guid_read(bytes: &[u8], at: usize, text: &mut [u8; 16]) -> Counted
 {
     let read = (Cursor { at }).guid(bytes);
     match read {
-        GuidRead::Guid(g, next) => {
+        Ok((g, next)) => {
             put_text(text, g);
             board_answer::at(next.at)
         }
-        GuidRead::Refused(e) => board_answer::refused(e),
+        Err(e) => board_answer::refused(e),
     }
 }
 

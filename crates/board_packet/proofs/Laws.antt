@@ -4,17 +4,37 @@ use mathlib.Core.Path.{◌≡◌, refl}
 use mathlib.Core.List.{List}
 use mathlib.Core.Bool.{Bool, true, false, not}
 use Prim.Native.Nat.{ℕ, ◌<◌, ◌≤◌}
-use lib.Dec.{eqb}
+use lib.Dec.{eqb, ltb}
 use lib.ListN.{length, get_or}
-use borrow.Author.Tests.{lt-ltb, le-ltb}
+use borrow.Author.Tests.{lt-ltb, le-ltb, ltb-true, ltb-false}
 use Rattle.lists.specs.Pick.{pick}
 use Rattle.lists.proofs.Split.{clash}
-use Rattle.format.specs.Answer.{Answer, gives, refuses, Read, took, stops, unknown, stop_if, and_then}
+use Rattle.format.specs.Answer.{Refusal, Answer, gives, refuses, Read, took, stops, unknown, refuse_if, stop_if, and_then}
 use Rattle.format.specs.Header as H
 use Rattle.format.specs.Header.{packet_types, packet_statuses, listed, header_of, read_header, header_bytes, write_header}
 use Rattle.format.specs.Prelogin.{write_prelogin}
 use Rattle.header.specs.Told.{known}
 use Rattle.board_packet.specs.Plain.{header_made, header_given, prelogin_given}
+
+-- ---- ENCRYPTION's number: known up to 3
+
+module _ (n : ℕ) where
+  abbrev number : Bool → Answer ℕ
+  number b = refuse_if b unknown (gives n)
+
+  refused_by : (b : Bool) (e : Refusal) → refuses e ≡ number b → (b ≡ true) × (e ≡ unknown)
+  refused_by true e h = (refl, cc)
+  refused_by false e h = clash cc
+
+  known_by : (b : Bool) (m : ℕ) → gives m ≡ number b → (b ≡ false) × (m ≡ n)
+  known_by true m h = clash cc
+  known_by false m h = (refl, cc)
+
+  pub encryption_refused : (e : Refusal) → refuses e ≡ number (ltb 3 n) → (3 < n) × (e ≡ unknown)
+  encryption_refused e h = let p = refused_by (ltb 3 n) e h in (ltb-true 3 n p.0, p.1)
+
+  pub encryption_known : (m : ℕ) → gives m ≡ number (ltb 3 n) → (n ≤ 3) × (m ≡ n)
+  encryption_known m h = let p = known_by (ltb 3 n) m h in (ltb-false 3 n p.0, p.1)
 
 -- ---- a header: its type and its status, judged together
 

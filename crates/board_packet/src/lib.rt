@@ -9,7 +9,6 @@ ghost use Rattle.lists.specs.Pick.{pick};
 ghost use Rattle.format.specs.Answer.{further, map_read, and_then, fitted, wrote, room_after};
 ghost use Rattle.format.specs.Header.{packet_types, packet_statuses, listed, header_of, read_header, header_bytes, write_header};
 ghost use Rattle.format.specs.Prelogin.{write_prelogin};
-ghost use Rattle.prelogin.specs.Told.{encryption_number};
 ghost use Rattle.board_answer.specs.Told.{counted, place, after};
 ghost use Rattle.board_packet.specs.Plain.{header_numbers, header_at, header_made, header_given, prelogin_given};
 
@@ -148,19 +147,6 @@ pub fn header_write(
     board_answer::unknown()
 }
 
-// ENCRYPTION of its number.
-fn encryption_of(n: u8) -> Encryption
-    requires { n ≤ 3 }
-    ensures { encryption_number result ≡ n }
-{
-    match n {
-        0 => Encryption::Off,
-        1 => Encryption::On,
-        2 => Encryption::NotSupported,
-        _ => Encryption::Required,
-    }
-}
-
 // Is a flag set?
 fn is_set(flag: u8) -> bool
     ensures { result ≡ eqb flag 1 }
@@ -181,9 +167,10 @@ pub fn prelogin_write(
     ensures answer { result ≡ counted (wrote (fitted (and_then (prelogin_given version sub_build encryption thread_id mars fed_auth) write_prelogin) (length out.old))) }
     ensures room { out.new ≡ room_after (fitted (and_then (prelogin_given version sub_build encryption thread_id mars fed_auth) write_prelogin) (length out.old)) out.old }
 {
-    if 3 < encryption {
-        return board_answer::unknown();
-    }
+    let encryption = match Encryption::try_from(encryption) {
+        Ok(e) => e,
+        Err(e) => return board_answer::refused(e),
+    };
     if 1 < mars {
         return board_answer::unknown();
     }
@@ -193,7 +180,7 @@ pub fn prelogin_write(
     let p = Prelogin {
         version,
         sub_build,
-        encryption: encryption_of(encryption),
+        encryption,
         thread_id,
         mars: is_set(mars),
         fed_auth_required: is_set(fed_auth),

@@ -9,8 +9,6 @@ ghost use Rattle.board_row_read.specs.Plain.{needs_at, row_at, row_room, row_val
 
 use board_answer::Counted;
 use cursor::Cursor;
-use judge_step::RowJudged;
-use normal_step::Normal;
 
 // What the row at a place needs: the bytes of room that reading takes, the bytes of the normal form.
 pub fn row_needs(table: &[u8], row: &[u8], at: usize, needs: &mut [u64; 2]) -> Counted
@@ -19,11 +17,11 @@ pub fn row_needs(table: &[u8], row: &[u8], at: usize, needs: &mut [u64; 2]) -> C
 {
     let judged = packed_judge::judge_packed(table, row, Cursor { at });
     match judged {
-        RowJudged::Row(n) => {
+        Ok(n) => {
             *needs = [n.joined as u64, n.normal as u64];
             board_answer::at(n.next.at)
         }
-        RowJudged::Refused(e) => board_answer::refused(e),
+        Err(e) => board_answer::refused(e),
     }
 }
 
@@ -36,8 +34,8 @@ pub fn row_read(table: &[u8], row: &[u8], at: usize, room: &mut [u8], values: &m
 {
     let read = packed_read::read_packed(table, row, Cursor { at }, room, values);
     match read {
-        RowJudged::Row(n) => board_answer::at(n.next.at),
-        RowJudged::Refused(e) => board_answer::refused(e),
+        Ok(n) => board_answer::at(n.next.at),
+        Err(e) => board_answer::refused(e),
     }
 }
 
@@ -49,10 +47,10 @@ pub fn row_normal(table: &[u8], row: &[u8], at: usize, out: &mut [u8], next: &mu
 {
     let form = packed_normal::normal_packed(table, row, Cursor { at }, out);
     match form {
-        Normal::Bytes(n, behind) => {
+        Ok((n, behind)) => {
             *next = behind.at as u64;
             board_answer::count(n as u64)
         }
-        Normal::Refused(e) => board_answer::refused(e),
+        Err(e) => board_answer::refused(e),
     }
 }

@@ -8,7 +8,7 @@ ghost use Rattle.board_answer.specs.Told.{counted};
 ghost use Rattle.board_untyped.specs.Plain.{untyped_given};
 
 use board_answer::Counted;
-use packed_value::{Judged, inner as three};
+use packed_value::inner as three;
 
 // How many bytes the value takes with its own descriptor in front.
 pub fn untyped_size(value: &[u64; 3], buffer: &[u8]) -> Counted
@@ -16,11 +16,11 @@ pub fn untyped_size(value: &[u64; 3], buffer: &[u8]) -> Counted
 {
     let judged = packed_value::judge_value(value);
     match judged {
-        Judged::Fine => {
+        Ok(()) => {
             let v = three::value_at(value, 0);
             board_answer::answer(untyped_size::untyped_size(v, buffer))
         }
-        Judged::Refused(e) => board_answer::refused(e),
+        Err(e) => board_answer::refused(e),
     }
 }
 
@@ -31,10 +31,10 @@ pub fn untyped_write(value: &[u64; 3], buffer: &[u8], out: &mut [u8]) -> Counted
 {
     let judged = packed_value::judge_value(value);
     match judged {
-        Judged::Fine => {
+        Ok(()) => {
             let v = three::value_at(value, 0);
             board_answer::answer(untyped_write::write_untyped(v, buffer, out))
         }
-        Judged::Refused(e) => board_answer::refused(e),
+        Err(e) => board_answer::refused(e),
     }
 }

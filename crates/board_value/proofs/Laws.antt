@@ -1,8 +1,8 @@
 -- What is written of three numbers under a record of 16 bytes, and what is read, by what the layers below tell of the column and of the value made of them.
 -- Assumes nothing.
+use Rattle.std.specs.Prelude.{None, Some}
 use mathlib.Core.Path.{◌≡◌, sym, ap, ◌∙◌}
 use mathlib.Core.List.{List, []}
-use mathlib.Core.Option.{none, some}
 use Prim.Native.Nat.{ℕ}
 use lib.ListN.{get_or}
 use Rattle.format.specs.Answer.{Refusal, refuses, Read, map_read}
@@ -31,11 +31,11 @@ column_is s r c e = ap (column_told s) e ∙ plain_told s r
 -- ---- written
 
 module _ (value buffer column : List ℕ) where
-  pub typed_is : (c : Column) (v : Value) → c ≡ column_made column no_name no_name no_name → v ≡ given_made value → no_value value ≡ none →
+  pub typed_is : (c : Column) (v : Value) → c ≡ column_made column no_name no_name no_name → v ≡ given_made value → no_value value ≡ None →
       write_value (column_told buffer c) (value_told buffer v) ≡ value_given column value buffer
   typed_is c v x y n = rw (n, column_is buffer column c x, y, value_told_lem buffer (get_or value 0 0) (get_or value 1 0) (get_or value 2 0))
 
-  pub typed_not : (e : Refusal) → some e ≡ no_value value → refuses e ≡ value_given column value buffer
+  pub typed_not : (e : Refusal) → Some e ≡ no_value value → refuses e ≡ value_given column value buffer
   typed_not e n = rw (← n)
 
 -- ---- read

@@ -10,8 +10,7 @@ ghost use Rattle.board_value.specs.Plain.{value_given, value_at, room_at};
 use board_answer::Counted;
 use packed::inner as table;
 use packed_slot::inner as slot;
-use packed_value::{Judged, inner as three};
-use value_found::ValueRead;
+use packed_value::inner as three;
 use wire::Cursor;
 
 // How many bytes the value takes under the column.
@@ -20,12 +19,12 @@ pub fn value_size(column: &[u8; 16], value: &[u64; 3], buffer: &[u8]) -> Counted
 {
     let judged = packed_value::judge_value(value);
     match judged {
-        Judged::Fine => {
+        Ok(()) => {
             let c = table::column_at(column, 0);
             let v = three::value_at(value, 0);
             board_answer::answer(value_write::value_size(c, v, buffer))
         }
-        Judged::Refused(e) => board_answer::refused(e),
+        Err(e) => board_answer::refused(e),
     }
 }
 
@@ -36,12 +35,12 @@ pub fn value_write(column: &[u8; 16], value: &[u64; 3], buffer: &[u8], out: &mut
 {
     let judged = packed_value::judge_value(value);
     match judged {
-        Judged::Fine => {
+        Ok(()) => {
             let c = table::column_at(column, 0);
             let v = three::value_at(value, 0);
             board_answer::answer(value_write::write_value(c, v, buffer, out))
         }
-        Judged::Refused(e) => board_answer::refused(e),
+        Err(e) => board_answer::refused(e),
     }
 }
 
@@ -60,11 +59,11 @@ pub fn value_read(
     let c = table::column_at(column, 0);
     let read = value_read::read_value(c, row, Cursor { at }, room);
     match read {
-        ValueRead::Value(found, next) => {
+        Ok((found, next)) => {
             let s = slot::slot_of(found);
             *value = [s.kind, s.first, s.second];
             board_answer::at(next.at)
         }
-        ValueRead::Refused(e) => board_answer::refused(e),
+        Err(e) => board_answer::refused(e),
     }
 }

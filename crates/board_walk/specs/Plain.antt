@@ -1,6 +1,5 @@
 -- A walk over PLP chunks as six numbers: at, sum, known, total, text, ended. Three are flags, 0 or 1; another number there is 2 before anything else.
-use Rattle.std.specs.Prelude.{ℕ, Bool, true, List, [], ◌∷◌, eqb, ltb, get_or}
-use Rattle.std.proofs.Math.Option.{Option, none, some}
+use Rattle.std.specs.Prelude.{ℕ, Bool, true, List, [], ◌∷◌, eqb, ltb, get_or, None, Option, Some}
 use Rattle.lists.specs.Pick.{pick}
 use Rattle.format.specs.Answer.{Answer, gives, refuses, Read, took, stops, unknown, refuse_if, stop_if, and_then}
 use Rattle.format.specs.Plp.{Walk, Walked, open_walk, walk_chunks}
@@ -12,12 +11,12 @@ flag b = pick b 1 0
 
 -- a total that is not known is two zeros
 abbrev pub known_number : Option ℕ → ℕ
-known_number none = 0
-known_number (some n) = 1
+known_number None = 0
+known_number (Some n) = 1
 
 abbrev pub total_number : Option ℕ → ℕ
-total_number none = 0
-total_number (some n) = n
+total_number None = 0
+total_number (Some n) = n
 
 abbrev pub walk_numbers : Walk → List ℕ
 walk_numbers w = w.at ∷ w.sum ∷ known_number w.total ∷ total_number w.total ∷ flag w.text ∷ flag w.ended ∷ []
@@ -26,11 +25,11 @@ walk_numbers w = w.at ∷ w.sum ∷ known_number w.total ∷ total_number w.tota
 
 -- a null has no chunks: its walk has ended at once, at the next place
 abbrev pub null_walk : Bool → ℕ → Walk
-null_walk text next = record { at = next; sum = 0; total = none; text = text; ended = true }
+null_walk text next = record { at = next; sum = 0; total = None; text = text; ended = true }
 
 abbrev pub opened_numbers : Bool → Read (Option Walk) → Read (List ℕ)
-opened_numbers text (took (some w) next) = took (walk_numbers w) next
-opened_numbers text (took none next) = took (walk_numbers (null_walk text next)) next
+opened_numbers text (took (Some w) next) = took (walk_numbers w) next
+opened_numbers text (took None next) = took (walk_numbers (null_walk text next)) next
 opened_numbers text (stops e) = stops e
 
 -- the walk behind the eight bytes at a place
@@ -41,7 +40,7 @@ walk_at text s at = stop_if (ltb 1 text) unknown (opened_numbers (eqb text 1) (o
 
 -- the total counts only where known is 1
 abbrev pub total_given : ℕ → ℕ → Option ℕ
-total_given known total = pick (eqb known 1) (some total) none
+total_given known total = pick (eqb known 1) (Some total) None
 
 -- the walk of six numbers
 abbrev pub walk_given : ℕ → ℕ → ℕ → ℕ → ℕ → ℕ → Answer Walk

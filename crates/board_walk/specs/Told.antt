@@ -1,10 +1,10 @@
 -- What this crate's declared types tell, in the words of `format`.
+use Rattle.std.specs.Prelude.{None, Option, Some}
 use Rattle.format.specs.Answer.{Answer, gives, refuses, unknown}
 use Rattle.format.specs.Plp as P
 use Rattle.plp.specs.Told.{walk_told}
-use Rattle.board_walk.specs.declared.WalkGiven.{WalkGiven}
-use Rattle.board_walk.specs.declared.WalkGiven.TheVariants as G
+use Rattle.plp.specs.declared.Walk.{Walk}
 
-abbrev pub given_told : WalkGiven → Answer P.Walk
-given_told (G.Walk w) = gives (walk_told w)
-given_told G.Unknown = refuses unknown
+abbrev pub given_told : Option Walk → Answer P.Walk
+given_told (Some w) = gives (walk_told w)
+given_told None = refuses unknown

@@ -9,7 +9,7 @@ ghost use Rattle.board_walk.specs.Plain.{flag, known_number, total_number, walk_
 ghost use Rattle.board_walk.specs.Told.{given_told};
 
 use board_answer::Counted;
-use plp::{Total, Walk, WalkOpened, Walked};
+use plp::{Opened, Walk};
 use wire::Cursor;
 
 // The number of a flag.
@@ -27,22 +27,22 @@ fn is_set(n: u64) -> bool
 }
 
 // Is the total known?
-fn is_known(total: Total) -> u64
+fn is_known(total: Option<u64>) -> u64
     ensures { result ≡ known_number (total_told total) }
 {
     match total {
-        Total::Unknown => 0,
-        Total::Known(_) => 1,
+        None => 0,
+        Some(_) => 1,
     }
 }
 
 // The total, 0 where it is not known.
-fn total_number(total: Total) -> u64
+fn total_number(total: Option<u64>) -> u64
     ensures { result ≡ total_number (total_told total) }
 {
     match total {
-        Total::Unknown => 0,
-        Total::Known(n) => n,
+        None => 0,
+        Some(n) => n,
     }
 }
 
@@ -62,13 +62,13 @@ fn numbers(w: Walk) -> [u64; 6]
 }
 
 // The total of two numbers.
-fn total_of(known: u64, total: u64) -> Total
+fn total_of(known: u64, total: u64) -> Option<u64>
     ensures { total_told result ≡ total_given known total }
 {
     if known == 1 {
-        return Total::Known(total);
+        return Some(total);
     }
-    Total::Unknown
+    None
 }
 
 // The walk behind the eight bytes at a place of the bytes. A null's has ended.
@@ -82,45 +82,38 @@ pub fn walk_open(bytes: &[u8], at: usize, text: u8, walk: &mut [u64; 6]) -> Coun
     let text = is_set(text as u64);
     let opened = plp::open_walk(bytes, Cursor { at }, text);
     match opened {
-        WalkOpened::Walk(w) => {
+        Ok(Opened::Walk(w)) => {
             *walk = numbers(w);
             board_answer::at(w.at)
         }
-        WalkOpened::Null(next) => {
+        Ok(Opened::Null(next)) => {
             *walk = numbers(Walk {
                 at: next.at,
                 sum: 0,
-                total: Total::Unknown,
+                total: None,
                 text,
                 ended: true,
             });
             board_answer::at(next.at)
         }
-        WalkOpened::Refused(e) => board_answer::refused(e),
+        Err(e) => board_answer::refused(e),
     }
-}
-
-// The walk of six numbers, where there is one.
-#[derive(Clone, Copy)]
-enum WalkGiven {
-    Walk(Walk),
-    Unknown,
 }
 
 // The walk of six numbers. A flag is 0 or 1.
-fn walk_given(at: u64, sum: u64, known: u64, total: u64, text: u64, ended: u64) -> WalkGiven
+fn walk_given(at: u64, sum: u64, known: u64, total: u64, text: u64, ended: u64) -> Option<Walk>
     ensures { given_told result ≡ walk_given at sum known total text ended }
 {
     if 1 < known {
-        return WalkGiven::Unknown;
+        return None;
     }
     if 1 < text {
-        return WalkGiven::Unknown;
+        return None;
     }
     if 1 < ended {
-        return WalkGiven::Unknown;
+        return None;
     }
-    WalkGiven::Walk(Walk {
+    Some(Walk {
         at: at as usize,
         sum,
         total: total_of(known, total),
@@ -135,15 +128,15 @@ pub fn walk_step(bytes: &[u8], allowed: u64, walk: &mut [u64; 6]) -> Counted
     ensures room { walk.new ≡ walk_after (walk_step allowed bytes.now walk.old) walk.old }
 {
     let given = walk_given(walk[0], walk[1], walk[2], walk[3], walk[4], walk[5]);
-    let WalkGiven::Walk(w) = given else {
+    let Some(w) = given else {
         return board_answer::unknown();
     };
     let walked = plp::walk_chunks(bytes, w, allowed);
     match walked {
-        Walked::Walked(x, taken) => {
+        Ok((x, taken)) => {
             *walk = numbers(x);
             board_answer::count(taken)
         }
-        Walked::Refused(e) => board_answer::refused(e),
+        Err(e) => board_answer::refused(e),
     }
 }

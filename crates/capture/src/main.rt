@@ -32,11 +32,9 @@ fn run<R: Env + Files + Input + Print>(
     room: &mut [u8],
 ) -> io::Result<()> {
     let count = capture_input::inputs(rt);
-    let mut i: usize = 0;
-    while i < count {
+    for i in 0..count {
         let n = capture_input::read_input(rt, faults, i, s)?;
         show_front(rt, n, s, joined, room)?;
-        i += 1;
     }
     Ok(())
 }

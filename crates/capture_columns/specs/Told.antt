@@ -1,5 +1,5 @@
 -- What the columns of a capture tell, in the words of `format`; and where their reading stops.
-use Rattle.std.specs.Prelude.{ℕ, zero, suc, ◌+◌, ◌≡◌, List, map, ltb, take}
+use Rattle.std.specs.Prelude.{ℕ, zero, suc, ◌+◌, ◌≡◌, List, map, ltb, take, Result, Ok, Err}
 use Rattle.lists.specs.Pick.{pick}
 use Rattle.format.specs.Answer.{Read, took, stops, read_at}
 use Rattle.format.specs.Descriptor as D
@@ -7,17 +7,12 @@ use Rattle.format.specs.Row.{max_columns}
 use Rattle.wire.specs.Told.{refusal_told}
 use Rattle.column_type.specs.Told.{column_told}
 use Rattle.capture_columns.specs.declared.CaptureColumns.{CaptureColumns}
-use Rattle.capture_columns.specs.declared.ColumnsEnd.{ColumnsEnd}
-use Rattle.capture_columns.specs.declared.ColumnsEnd.TheVariants as E
-use Rattle.column_type.specs.declared.Column.{Column}
-
-abbrev pub end_told : List ℕ → List Column → ColumnsEnd → Read (List D.Column)
-end_told s cols (E.End c) = took (map (column_told s) cols) c.at
-end_told s cols (E.Refused e k c) = stops (refusal_told e)
+use Rattle.capture_columns.specs.declared.ColumnRefused.{ColumnRefused}
 
 -- the columns read: the first of the list
-abbrev pub columns_read_told : List ℕ → ℕ → CaptureColumns → Read (List D.Column)
-columns_read_told s count r = end_told s (take count r.list) r.end
+abbrev pub columns_read_told : List ℕ → ℕ → Result CaptureColumns ColumnRefused → Read (List D.Column)
+columns_read_told s count (Ok c) = took (map (column_told s) (take count c.list)) c.end.at
+columns_read_told s count (Err e) = stops (refusal_told e.refusal)
 
 -- How many columns are read from a place on before one is refused, and where that one begins.
 pub record Stop : Type 0 where
@@ -37,6 +32,6 @@ abbrev pub stop_at : ℕ → List ℕ → ℕ → Stop
 stop_at count s at = pick (ltb max_columns count) (record { columns = 0; place = at }) (stop_of count s 0 at)
 
 -- a refusal says where it arose
-abbrev pub StopsAt : List ℕ → ℕ → ℕ → ColumnsEnd → Type 0
-StopsAt s count at (E.End c) = Unit {0}
-StopsAt s count at (E.Refused e k c) = record { columns = k; place = c.at } ≡ stop_at count s at
+abbrev pub StopsAt : List ℕ → ℕ → ℕ → Result CaptureColumns ColumnRefused → Type 0
+StopsAt s count at (Ok c) = Unit {0}
+StopsAt s count at (Err e) = record { columns = e.before; place = e.at.at } ≡ stop_at count s at

@@ -23,12 +23,12 @@ fn put_digits(out: &mut [u8], at: usize, t: TypeId, precision: u8, scale: u8) ->
 }
 
 // The collation, if there is one; the place behind.
-fn put_collation(out: &mut [u8], at: usize, c: Collation) -> usize
+fn put_collation(out: &mut [u8], at: usize, c: Option<Collation>) -> usize
     requires { at + length (collation_bytes (collation_told c)) ≤ length out.old }
     ensures room { out.new ≡ sets out.old at (collation_bytes (collation_told c)) }
     ensures next { result ≡ at + length (collation_bytes (collation_told c)) }
 {
-    if let Collation::Of(info, sort) = c {
+    if let Some(Collation { info, sort }) = c {
         inner::put_low(out, at, info as u64, 4);
         inner::put_byte(out, at + 4, sort);
         return at + 5;
@@ -61,20 +61,27 @@ fn put_names(out: &mut [u8], at: usize, database: Name, owner: Name, collection:
 }
 
 // The marker, and the names where there are any.
-fn put_marked(out: &mut [u8], at: usize, n: Schema, names: &[u8])
+fn put_marked(out: &mut [u8], at: usize, n: Option<Schema>, names: &[u8])
     requires { (names_fit (schema_told names.now n) ≡ true) × (at + length (schema_bytes xml (schema_told names.now n)) ≤ length out.old) }
     ensures { out.new ≡ sets out.old at (schema_bytes xml (schema_told names.now n)) }
 {
-    if let Schema::Names(database, owner, collection) = n {
+    if let Some(three) = n {
         inner::put_byte(out, at, 1);
-        put_names(out, at + 1, database, owner, collection, names);
+        put_names(
+            out,
+            at + 1,
+            three.database,
+            three.owner,
+            three.collection,
+            names,
+        );
         return;
     }
     inner::put_byte(out, at, 0);
 }
 
 // The schema, where the type has one.
-fn put_schema(out: &mut [u8], at: usize, t: TypeId, n: Schema, names: &[u8])
+fn put_schema(out: &mut [u8], at: usize, t: TypeId, n: Option<Schema>, names: &[u8])
     requires { (names_fit (schema_told names.now n) ≡ true) × (at + length (schema_bytes (type_told t) (schema_told names.now n)) ≤ length out.old) }
     ensures { out.new ≡ sets out.old at (schema_bytes (type_told t) (schema_told names.now n)) }
 {

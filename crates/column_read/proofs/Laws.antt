@@ -3,17 +3,16 @@
 -- Assumes nothing.
 use mathlib.Core.Path.{◌≡◌, refl, ap, ◌∙◌}
 use mathlib.Core.List.{List, [], ◌∷◌}
-use mathlib.Core.Bool.{Bool, true, false}
+use mathlib.Core.Bool.{false}
 use Prim.Native.Nat.{ℕ, ◌≤◌}
 use native.Mathlib.Nat.{add-zero}
 use native.Mathlib.Omega.{arith}
 use lib.ListN.{length, drop}
 use borrow.Author.Tests.{le-ltb}
-use Rattle.lists.specs.Pick.{pick}
 use Rattle.format.specs.Answer.{Read, took, stops, further, follow, then_read, read_at}
 use Rattle.format.specs.Number.{read_byte, read_low}
 use Rattle.format.specs.Descriptor.{TypeId, ByteLen, UShortLen, LongLen, byte_len, u_short_len, long_len, Column, plain, has_digits, has_collation}
-use Rattle.format.specs.Descriptor.{read_scale, read_digits, read_fields}
+use Rattle.format.specs.Descriptor.{read_digits, read_fields}
 use Rattle.format.proofs.Place.{at_left}
 use Rattle.column_read.specs.Told.{read_behind}
 

@@ -70,29 +70,29 @@ fn collation_numbers(info: u32, sort: u8) -> bool
 }
 
 // A collation stands exactly where the type has one.
-fn collation_fits(t: TypeId, c: Collation) -> bool
+fn collation_fits(t: TypeId, c: Option<Collation>) -> bool
     ensures { result ≡ collation_fits (has_collation (type_told t)) (collation_told c) }
 {
     if column_has::has_collation(t) {
         match c {
-            Collation::None => false,
-            Collation::Of(info, sort) => collation_numbers(info, sort),
+            None => false,
+            Some(Collation { info, sort }) => collation_numbers(info, sort),
         }
     } else {
         match c {
-            Collation::None => true,
-            Collation::Of(_, _) => false,
+            None => true,
+            Some(_) => false,
         }
     }
 }
 
 // A schema is Xml's alone.
-fn schema_fits(t: TypeId, n: Schema) -> bool
+fn schema_fits(t: TypeId, n: Option<Schema>) -> bool
     ensures { (b : List ℕ) → result ≡ schema_fits (type_told t) (schema_told b n) }
 {
     match n {
-        Schema::None => true,
-        Schema::Names(_, _, _) => column_has::is_xml(t),
+        None => true,
+        Some(_) => column_has::is_xml(t),
     }
 }
 
@@ -129,16 +129,16 @@ fn name_fits(n: Name, names: &[u8], limit: u64) -> bool
 }
 
 // What is asked besides when the descriptor itself is written.
-pub fn names_fit(n: Schema, names: &[u8]) -> bool
+pub fn names_fit(n: Option<Schema>, names: &[u8]) -> bool
     ensures { result ≡ names_fit (schema_told names.now n) }
 {
     match n {
-        Schema::None => true,
-        Schema::Names(database, owner, collection) => both(
-            name_fits(database, names, 256),
+        None => true,
+        Some(three) => both(
+            name_fits(three.database, names, 256),
             both(
-                name_fits(owner, names, 256),
-                name_fits(collection, names, 65536),
+                name_fits(three.owner, names, 256),
+                name_fits(three.collection, names, 65536),
             ),
         ),
     }

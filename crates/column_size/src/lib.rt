@@ -5,11 +5,11 @@
 ghost use Rattle.std.specs.Prelude.{◌≡◌, true, ℕ, ◌+◌, ◌*◌, ◌≤◌, length};
 ghost use Rattle.format.specs.Answer.{wrote};
 ghost use Rattle.format.specs.Descriptor.{has_digits, digits_bytes, collation_bytes, schema_bytes, column_bytes, names_fit, write_column, xml};
-ghost use Rattle.wire.specs.Told.{wrote_told};
+ghost use Rattle.wire.specs.Told.{answer_told};
 ghost use Rattle.column_type.specs.Told.{type_told, collation_told, schema_told, column_told};
 
 use column_type::{Collation, Column, Schema, TypeId};
-use wire::{Refusal, Wrote};
+use wire::Refusal;
 
 // How many bytes precision and scale take.
 fn digits_size(t: TypeId) -> usize
@@ -19,32 +19,32 @@ fn digits_size(t: TypeId) -> usize
 }
 
 // How many bytes the collation takes.
-fn collation_size(c: Collation) -> usize
+fn collation_size(c: Option<Collation>) -> usize
     ensures { (result ≡ length (collation_bytes (collation_told c))) × (result ≤ 5) }
 {
     match c {
-        Collation::None => 0,
-        Collation::Of(_, _) => 5,
+        None => 0,
+        Some(_) => 5,
     }
 }
 
 // A marker, and the three names where there are any. The buffer is there for the contract alone. The
 // bound is any that lets the sizes be added: names that fit take 132,095 bytes at most, 5 and twice
 // 255, 255 and 65,535 units.
-fn marked_size(n: Schema, names: &[u8]) -> usize
+fn marked_size(n: Option<Schema>, names: &[u8]) -> usize
     requires { names_fit (schema_told names.now n) ≡ true }
     ensures { (result ≡ length (schema_bytes xml (schema_told names.now n))) × (result ≤ 200000) }
 {
     match n {
-        Schema::None => 1,
-        Schema::Names(database, owner, collection) => {
-            5 + 2 * database.units + 2 * owner.units + 2 * collection.units
+        None => 1,
+        Some(three) => {
+            5 + 2 * three.database.units + 2 * three.owner.units + 2 * three.collection.units
         }
     }
 }
 
 // How many bytes the schema takes: only Xml has one.
-fn schema_size(t: TypeId, n: Schema, names: &[u8]) -> usize
+fn schema_size(t: TypeId, n: Option<Schema>, names: &[u8]) -> usize
     requires { names_fit (schema_told names.now n) ≡ true }
     ensures { (result ≡ length (schema_bytes (type_told t) (schema_told names.now n))) × (result ≤ 200000) }
 {
@@ -70,22 +70,22 @@ fn size_of(c: Column, names: &[u8]) -> usize
 }
 
 // How many bytes the descriptor takes, or why it is not written.
-pub fn column_size(c: Column, names: &[u8]) -> Wrote
-    ensures { wrote_told result ≡ wrote (write_column (column_told names.now c)) }
+pub fn column_size(c: Column, names: &[u8]) -> Result<usize, Refusal>
+    ensures { answer_told result ≡ wrote (write_column (column_told names.now c)) }
 {
     let ty = c.ty;
     let schema = c.schema;
     if column_rule::keeps_rule(c) {
         if column_rule::names_fit(schema, names) {
             if column_has::is_described(ty) {
-                Wrote::Bytes(size_of(c, names))
+                Ok(size_of(c, names))
             } else {
-                Wrote::Refused(Refusal::NotCarried)
+                Err(Refusal::NotCarried)
             }
         } else {
-            Wrote::Refused(Refusal::Rule)
+            Err(Refusal::Rule)
         }
     } else {
-        Wrote::Refused(Refusal::Rule)
+        Err(Refusal::Rule)
     }
 }

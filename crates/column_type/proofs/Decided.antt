@@ -1,9 +1,9 @@
 -- No two outcomes satisfy the contract of `column_read::read_column`: telling has an inverse, but for a name, which is told by its bytes alone, and the
 -- contract's second clause fixes where it stands.
 -- Assumes nothing.
+use Rattle.std.specs.Prelude.{Err, Ok, Result, None, Option, Some}
 use mathlib.Core.Path.{◌≡◌, refl, sym, ap, ◌∙◌}
 use mathlib.Core.List.{List}
-use mathlib.Core.Option.{Option, none, some}
 use Prim.Native.Nat.{ℕ, ◌+◌, ◌*◌}
 use native.Mathlib.Omega.{arith}
 use lib.ListN.{length}
@@ -26,18 +26,15 @@ use Rattle.column_type.specs.declared.LongLen.TheVariants as L
 use Rattle.column_type.specs.declared.TypeId.{TypeId}
 use Rattle.column_type.specs.declared.TypeId.TheVariants as T
 use Rattle.column_type.specs.declared.Collation.{Collation}
-use Rattle.column_type.specs.declared.Collation.TheVariants as C
 use Rattle.column_type.specs.declared.Name.{Name}
 use Rattle.column_type.specs.declared.Schema.{Schema}
-use Rattle.column_type.specs.declared.Schema.TheVariants as S
 use Rattle.column_type.specs.declared.Column.{Column}
-use Rattle.column_type.specs.declared.ColumnRead.{ColumnRead}
-use Rattle.column_type.specs.declared.ColumnRead.TheVariants as CR
 use Rattle.column_type.specs.Back.{fixed_back, byte_len_back, u_short_len_back, long_len_back, type_back}
 use Rattle.column_type.specs.Told.{fixed_told, byte_len_told, u_short_len_told, long_len_told, type_told, collation_told, name_told, schema_told}
-use Rattle.column_type.specs.Told.{column_told, column_read_told, name_bytes, NameIn, SchemaFrom, NamesFrom}
+use Rattle.column_type.specs.Told.{column_told, column_read_told, name_bytes, NameIn, SchemaFrom, NamesFrom, schema_of}
 use Rattle.column_type.proofs.ReadLaws.{name-inside}
 use Rattle.column_type.proofs.RuleLaws.{length-name}
+use Rattle.wire.specs.declared.Refusal.{Refusal}
 
 -- ---- the type byte
 
@@ -93,13 +90,13 @@ type_undoes T.SsVariant = refl
 
 -- ---- reading
 
-abbrev collation_back : Option D.Collation → Collation
-collation_back none = C.None
-collation_back (some k) = C.Of k.info k.sort
+abbrev collation_back : Option D.Collation → Option Collation
+collation_back None = None
+collation_back (Some k) = Some (record { info = k.info; sort = k.sort })
 
 collation_undoes : Undoes collation_told collation_back
-collation_undoes C.None = refl
-collation_undoes (C.Of info sort) = refl
+collation_undoes None = refl
+collation_undoes (Some c) = refl
 
 -- records are equal by their fields
 abbrev name : ℕ → ℕ → Name
@@ -108,10 +105,10 @@ name start units = record { start = start; units = units }
 named : (x y u v : ℕ) → x ≡ y → u ≡ v → name x u ≡ name y v
 named x y u v p q = rw (p, q)
 
-abbrev column : TypeId → ℕ → ℕ → ℕ → Collation → Schema → Column
+abbrev column : TypeId → ℕ → ℕ → ℕ → Option Collation → Option Schema → Column
 column t n p x l m = record { ty = t; length = n; precision = p; scale = x; collation = l; schema = m }
 
-made : (t t' : TypeId) (n n' p p' x x' : ℕ) (l l' : Collation) (m m' : Schema) → t ≡ t' → n ≡ n' → p ≡ p' → x ≡ x' → l ≡ l' → m ≡ m' →
+made : (t t' : TypeId) (n n' p p' x x' : ℕ) (l l' : Option Collation) (m m' : Option Schema) → t ≡ t' → n ≡ n' → p ≡ p' → x ≡ x' → l ≡ l' → m ≡ m' →
     column t n p x l m ≡ column t' n' p' x' l' m'
 made t t' n n' p p' x x' l l' m m' a b c d e f = rw (a, b, c, d, e, f)
 
@@ -121,7 +118,10 @@ cursor n = record { at = n }
 same_cursor : (c d : Cursor) → c.at ≡ d.at → c ≡ d
 same_cursor c d e = ap cursor e
 
-one_schema : {x y : D.Schema} → some x ≡ some y → x ≡ y
+schemas : (a d b e c f : Name) → a ≡ d → b ≡ e → c ≡ f → Some (schema_of a b c) ≡ Some (schema_of d e f)
+schemas a d b e c f p q r = rw (p, q, r)
+
+one_schema : {x y : D.Schema} → Some x ≡ Some y → x ≡ y
 one_schema e = cc
 
 module _ (s : List ℕ) where
@@ -133,21 +133,21 @@ module _ (s : List ℕ) where
       let u : a.units ≡ b.units = omega (arith, length-name s a h, length-name s b i, ap length g) in
       named a.start b.start a.units b.units p u
 
-  same_schema : (place : ℕ) (x y : Schema) → SchemaFrom s place x → SchemaFrom s place y → schema_told s x ≡ schema_told s y → x ≡ y
-  same_schema place S.None S.None h i e = refl
-  same_schema place S.None (S.Names a b c) h i e = clash cc
-  same_schema place (S.Names a b c) S.None h i e = clash cc
-  same_schema place (S.Names a b c) (S.Names d f g) h i e =
+  same_schema : (place : ℕ) (x y : Option Schema) → SchemaFrom s place x → SchemaFrom s place y → schema_told s x ≡ schema_told s y → x ≡ y
+  same_schema place None None h i e = refl
+  same_schema place None (Some n) h i e = clash cc
+  same_schema place (Some n) None h i e = clash cc
+  same_schema place (Some m) (Some n) h i e =
       let w = one_schema e in
-      let x : name_told s a ≡ name_told s d = ap (λ (k : D.Schema). k.database) w in
-      let y : name_told s b ≡ name_told s f = ap (λ (k : D.Schema). k.owner) w in
-      let z : name_told s c ≡ name_told s g = ap (λ (k : D.Schema). k.collection) w in
-      let p = same_name a d (h.0 ∙ sym i.0) (omega (arith, h.1, h.2, h.3)) (omega (arith, i.1, i.2, i.3)) x in
+      let x : name_told s m.database ≡ name_told s n.database = ap (λ (k : D.Schema). k.database) w in
+      let y : name_told s m.owner ≡ name_told s n.owner = ap (λ (k : D.Schema). k.owner) w in
+      let z : name_told s m.collection ≡ name_told s n.collection = ap (λ (k : D.Schema). k.collection) w in
+      let p = same_name m.database n.database (h.0 ∙ sym i.0) (omega (arith, h.1, h.2, h.3)) (omega (arith, i.1, i.2, i.3)) x in
       let q =
-      same_name b f (h.1 ∙ (ap (λ (n : Name). n.start + 2 * n.units + 1) p ∙ sym i.1)) (omega (arith, h.2, h.3))
+      same_name m.owner n.owner (h.1 ∙ (ap (λ (n : Name). n.start + 2 * n.units + 1) p ∙ sym i.1)) (omega (arith, h.2, h.3))
       (omega (arith, i.2, i.3)) y in
-      let r = same_name c g (h.2 ∙ (ap (λ (n : Name). n.start + 2 * n.units + 2) q ∙ sym i.2)) h.3 i.3 z in
-      rw (p, q, r)
+      let r = same_name m.collection n.collection (h.2 ∙ (ap (λ (n : Name). n.start + 2 * n.units + 2) q ∙ sym i.2)) h.3 i.3 z in
+      schemas m.database n.database m.owner n.owner m.collection n.collection p q r
 
   same_column : (place : ℕ) (c d : Column) → SchemaFrom s place c.schema → SchemaFrom s place d.schema → column_told s c ≡ column_told s d → c ≡ d
   same_column place c d h i e =
@@ -163,21 +163,22 @@ module _ (s : List ℕ) where
       d.schema t n p x l m
 
 -- what the contract of `column_read::read_column` says of an answer
-pub record Reads (s : List ℕ) (at : ℕ) (r : ColumnRead) : Type 0 where
+pub record Reads (s : List ℕ) (at : ℕ) (r : Result (Column × Cursor) Refusal) : Type 0 where
   pub told : column_read_told s r ≡ read_at read_column s at
   pub names : NamesFrom s (at + 3) r
 
-same_read : (s : List ℕ) (place : ℕ) (x y : ColumnRead) → NamesFrom s place x → NamesFrom s place y → column_read_told s x ≡ column_read_told s y → x ≡ y
-same_read s place (CR.Column c n) (CR.Column d m) h i e =
+same_read : (s : List ℕ) (place : ℕ) (x y : Result (Column × Cursor) Refusal) → NamesFrom s place x → NamesFrom s place y →
+    column_read_told s x ≡ column_read_told s y → x ≡ y
+same_read s place (Ok (c, n)) (Ok (d, m)) h i e =
     let p : column_told s c ≡ column_told s d = cc in
     let q : n.at ≡ m.at = cc in
     rw (same_column s place c d h i p, same_cursor n m q)
-same_read s place (CR.Column c n) (CR.Refused f) h i e = clash cc
-same_read s place (CR.Refused f) (CR.Column c n) h i e = clash cc
-same_read s place (CR.Refused f) (CR.Refused g) h i e =
+same_read s place (Ok (c, n)) (Err f) h i e = clash cc
+same_read s place (Err f) (Ok (c, n)) h i e = clash cc
+same_read s place (Err f) (Err g) h i e =
     let p : refusal_told f ≡ refusal_told g = cc in
-    ap CR.Refused (decided refusal_told refusal_back refusal_undoes f g (refusal_told g) p refl)
+    ap Err (decided refusal_told refusal_back refusal_undoes f g (refusal_told g) p refl)
 
 -- `column_read::read_column`
-pub read_column_decided : (s : List ℕ) (at : ℕ) (x y : ColumnRead) → Reads s at x → Reads s at y → x ≡ y
+pub read_column_decided : (s : List ℕ) (at : ℕ) (x y : Result (Column × Cursor) Refusal) → Reads s at x → Reads s at y → x ≡ y
 read_column_decided s at x y p q = same_read s (at + 3) x y p.names q.names (p.told ∙ sym q.told)

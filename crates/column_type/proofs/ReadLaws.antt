@@ -1,5 +1,7 @@
 -- What a step of the reader shows: each continuation of the definition, at a place, goes on where the step before it ended.
 -- Assumes nothing.
+use Rattle.std.specs.Prelude.{None, Some}
+use Rattle.std.specs.Prelude.{Err, Ok, Result}
 use mathlib.Core.Path.{◌≡◌, refl, ◌∙◌}
 use mathlib.Core.List.{List}
 use Prim.Native.Nat.{ℕ, ◌+◌, ◌*◌, ◌<◌, ◌≤◌}
@@ -14,12 +16,11 @@ use Rattle.format.proofs.Plain.{byte-took, low-took}
 use Rattle.format.proofs.Place.{Stays, took_at, stays_low, stays_bytes, stays_then}
 use Rattle.wire.proofs.Reading.{count_there, count-missing}
 use Rattle.column_type.specs.declared.Name.{Name}
-use Rattle.column_type.specs.declared.ColumnRead.{ColumnRead}
-use Rattle.column_type.specs.declared.ColumnRead.TheVariants as CR
 use Rattle.column_type.specs.declared.TypeId.TheVariants as T
-use Rattle.column_type.specs.declared.Collation.TheVariants as C
-use Rattle.column_type.specs.declared.Schema.TheVariants as S
-use Rattle.column_type.specs.Told.{name_told, column_told, name_bytes, NameIn, ThirdFrom, NamesFrom}
+use Rattle.column_type.specs.Told.{name_told, column_told, name_bytes, NameIn, ThirdFrom, NamesFrom, schema_of}
+use Rattle.column_type.specs.declared.Column.{Column}
+use Rattle.wire.specs.declared.Cursor.{Cursor}
+use Rattle.wire.specs.declared.Refusal.{Refusal}
 
 module _ (s : List ℕ) (at : ℕ) where
   -- the place behind a byte, and behind a number
@@ -50,12 +51,12 @@ stays_name w = stays_then (read_low w) read_units (stays_low w) (λ (n : ℕ). s
 
 -- a column with three names that lie in the input
 pub names_told : (s : List ℕ) (a b c : Name) → NameIn s a → NameIn s b → NameIn s c →
-    column_told s (record { ty = T.Xml; length = 0; precision = 0; scale = 0; collation = C.None; schema = S.Names a b c })
+    column_told s (record { ty = T.Xml; length = 0; precision = 0; scale = 0; collation = None; schema = Some (schema_of a b c) })
     ≡ with_names (name_bytes s a) (name_bytes s b) (name_bytes s c)
 names_told s a b c h i j = rw (name-inside s a h, name-inside s b i, name-inside s c j)
 
 -- the third name, behind two that stand where they should
-pub third_names : (s : List ℕ) (a b : Name) (place : ℕ) (r : ColumnRead) → b.start ≡ a.start + 2 * a.units + 1 →
+pub third_names : (s : List ℕ) (a b : Name) (place : ℕ) (r : Result (Column × Cursor) Refusal) → b.start ≡ a.start + 2 * a.units + 1 →
     place ≡ b.start + 2 * b.units + 2 → ThirdFrom s a b place r → NamesFrom s a.start r
-third_names s a b place (CR.Column c next) h i t = rw t.1 (refl, h, t.2 ∙ i, t.3)
-third_names s a b place (CR.Refused e) h i t = tt
+third_names s a b place (Ok (c, next)) h i t = rw t.1 (refl, h, t.2 ∙ i, t.3)
+third_names s a b place (Err e) h i t = tt

@@ -1,9 +1,9 @@
 -- Rule 6 on the declared types: a schema is Xml's alone, and a span keeps the rule when it lies in the buffer and its count fits.
 -- Assumes nothing.
+use Rattle.std.specs.Prelude.{Some}
 use mathlib.Core.Path.{◌≡◌, refl, sym, ap, ◌∙◌}
 use mathlib.Core.List.{List}
 use mathlib.Core.Bool.{Bool, true, false}
-use mathlib.Core.Option.{some}
 use Prim.Native.Nat.{ℕ, ◌+◌, ◌-◌, ◌*◌, ◌/◌, ◌%◌, ◌^◌, ◌<◌}
 use native.Mathlib.Omega.{arith}
 use lib.ListN.{length, drop, length-drop}
@@ -17,7 +17,7 @@ use Rattle.column_type.specs.declared.Name.{Name}
 use Rattle.column_type.specs.Told.{is_xml, name_told, name_bytes, NameIn}
 use Rattle.column_type.proofs.ReadLaws.{name-inside}
 
-pub xml-schema : (t : D.TypeId) (n : D.Schema) → is_xml t ≡ schema_fits t (some n)
+pub xml-schema : (t : D.TypeId) (n : D.Schema) → is_xml t ≡ schema_fits t (Some n)
 xml-schema (D.fixed_len t) n = refl
 xml-schema (D.byte_len t) n = refl
 xml-schema (D.u_short_len t) n = refl

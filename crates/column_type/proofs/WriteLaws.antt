@@ -1,9 +1,10 @@
 -- A descriptor's bytes, part by part: how long each part is, and what the order of the checks gives.
 -- Assumes nothing.
+use Rattle.std.specs.Prelude.{Some}
+use Rattle.std.specs.Prelude.{Option}
 use mathlib.Core.Path.{◌≡◌, refl, sym, ap, ◌∙◌}
 use mathlib.Core.List.{List, [], ◌∷◌, ◌++◌}
 use mathlib.Core.Bool.{Bool, true, false}
-use mathlib.Core.Option.{Option}
 use Prim.Native.Nat.{ℕ, ◌+◌, ◌-◌, ◌*◌, ◌/◌, ◌^◌, ◌<◌, ◌≤◌}
 use native.Mathlib.Omega.{arith}
 use lib.ListN.{length, take, drop, length-append}
@@ -22,9 +23,8 @@ use Rattle.format.proofs.DescriptorForm.{both_true, written}
 use Rattle.lists.specs.Put.{put_at}
 use Rattle.lists.proofs.Front.{sets_put, sets_then}
 use Rattle.column_type.specs.declared.Name.{Name}
-use Rattle.column_type.specs.declared.Schema.TheVariants as S
 use Rattle.column_type.specs.Told as Told
-use Rattle.column_type.specs.Told.{is_xml, name_told, schema_told, NameIn}
+use Rattle.column_type.specs.Told.{is_xml, name_told, schema_told, NameIn, schema_of}
 use Rattle.column_type.proofs.ReadLaws.{name-inside}
 use Rattle.column_type.proofs.RuleLaws.{length-name, name_leaves, name-lies}
 
@@ -46,7 +46,7 @@ pub record Fitting (s : List ℕ) (a b c : Name) : Type 0 where
   pub owner_units : b.units < 256
   pub collection_units : c.units < 65536
 
-pub fitting : (s : List ℕ) (a b c : Name) → names_fit (schema_told s (S.Names a b c)) ≡ true → Fitting s a b c
+pub fitting : (s : List ℕ) (a b c : Name) → names_fit (schema_told s (Some (schema_of a b c))) ≡ true → Fitting s a b c
 fitting s a b c h =
     let p = both_true (name_fits 1 (name_told s a)) (both (name_fits 1 (name_told s b)) (name_fits 2 (name_told s c))) h in
     let q = both_true (name_fits 1 (name_told s b)) (name_fits 2 (name_told s c)) p.1 in
@@ -68,7 +68,7 @@ pub length-named : (s : List ℕ) (n : Name) (w : ℕ) → NameIn s n → length
 length-named s n w h = ap length (name_is s n w h) ∙ rw (length-append, length-low w n.units, length-name s n h)
 
 pub length_names : (s : List ℕ) (a b c : Name) → NameIn s a → NameIn s b → NameIn s c →
-    length (schema_bytes D.xml (schema_told s (S.Names a b c))) ≡ 5 + 2 * a.units + 2 * b.units + 2 * c.units
+    length (schema_bytes D.xml (schema_told s (Some (schema_of a b c)))) ≡ 5 + 2 * a.units + 2 * b.units + 2 * c.units
 length_names s a b c h i j =
     let x = length-named s a 1 h in
     let y = length-named s b 1 i in

@@ -1,6 +1,6 @@
 -- What this crate's declared types tell, in the words of `format`.
+use Rattle.std.specs.Prelude.{Err, None, Ok, Option, Result, Some}
 use Rattle.std.specs.Prelude.{ℕ, ◌+◌, ◌*◌, ◌≤◌, ◌≡◌, List, [], ◌∷◌, Bool, true, false, length, take, drop}
-use Rattle.std.proofs.Math.Option.{Option, none, some}
 use Rattle.format.specs.Answer.{Answer, gives, refuses, unknown, Read, took, stops, Part, part}
 use Rattle.format.specs.Descriptor as D
 use Rattle.wire.specs.Told.{refusal_told}
@@ -14,18 +14,12 @@ use Rattle.column_type.specs.declared.LongLen.{LongLen}
 use Rattle.column_type.specs.declared.LongLen.TheVariants as L
 use Rattle.column_type.specs.declared.TypeId.{TypeId}
 use Rattle.column_type.specs.declared.TypeId.TheVariants as T
-use Rattle.column_type.specs.declared.TypeRead.{TypeRead}
-use Rattle.column_type.specs.declared.TypeRead.TheVariants as TR
 use Rattle.column_type.specs.declared.Collation.{Collation}
-use Rattle.column_type.specs.declared.Collation.TheVariants as C
 use Rattle.column_type.specs.declared.Name.{Name}
 use Rattle.column_type.specs.declared.Schema.{Schema}
-use Rattle.column_type.specs.declared.Schema.TheVariants as S
 use Rattle.column_type.specs.declared.Column.{Column}
-use Rattle.column_type.specs.declared.NameRead.{NameRead}
-use Rattle.column_type.specs.declared.NameRead.TheVariants as NR
-use Rattle.column_type.specs.declared.ColumnRead.{ColumnRead}
-use Rattle.column_type.specs.declared.ColumnRead.TheVariants as CR
+use Rattle.wire.specs.declared.Refusal.{Refusal}
+use Rattle.wire.specs.declared.Cursor.{Cursor}
 
 -- ---- the types
 
@@ -79,9 +73,9 @@ type_told T.Xml = D.xml
 type_told T.Udt = D.udt
 type_told T.SsVariant = D.ss_variant
 
-abbrev pub type_read_told : TypeRead → Answer D.TypeId
-type_read_told (TR.Type t) = gives (type_told t)
-type_read_told TR.Unknown = refuses unknown
+abbrev pub type_read_told : Option TypeId → Answer D.TypeId
+type_read_told (Some t) = gives (type_told t)
+type_read_told None = refuses unknown
 
 -- the three runs of `types` that the code asks one after another
 abbrev pub fixed_types : List D.TypeId
@@ -115,17 +109,18 @@ is_xml D.ss_variant = false
 
 -- ---- a column
 
-abbrev pub collation_told : Collation → Option D.Collation
-collation_told C.None = none
-collation_told (C.Of info sort) = some (record { info = info; sort = sort })
+abbrev pub collation_told : Option Collation → Option D.Collation
+collation_told None = None
+collation_told (Some c) = Some (record { info = c.info; sort = c.sort })
 
 -- "Names are kept as spans (start byte, unit count) of a lent buffer"
 abbrev pub name_told : List ℕ → Name → Part
 name_told buffer n = part buffer n.start (2 * n.units)
 
-abbrev pub schema_told : List ℕ → Schema → Option D.Schema
-schema_told buffer S.None = none
-schema_told buffer (S.Names a b c) = some (record { database = name_told buffer a; owner = name_told buffer b; collection = name_told buffer c })
+abbrev pub schema_told : List ℕ → Option Schema → Option D.Schema
+schema_told buffer None = None
+schema_told buffer (Some n) =
+    Some (record { database = name_told buffer n.database; owner = name_told buffer n.owner; collection = name_told buffer n.collection })
 
 abbrev pub column_told : List ℕ → Column → D.Column
 column_told buffer c =
@@ -138,13 +133,13 @@ column_told buffer c =
       schema = schema_told buffer c.schema;
     }
 
-abbrev pub column_read_told : List ℕ → ColumnRead → Read D.Column
-column_read_told s (CR.Column c next) = took (column_told s c) next.at
-column_read_told s (CR.Refused e) = stops (refusal_told e)
+abbrev pub column_read_told : List ℕ → Result (Column × Cursor) Refusal → Read D.Column
+column_read_told s (Ok (c, next)) = took (column_told s c) next.at
+column_read_told s (Err e) = stops (refusal_told e)
 
 -- a column with a type and a length, and nothing else
 abbrev pub plain_column : TypeId → ℕ → Column
-plain_column t n = record { ty = t; length = n; precision = 0; scale = 0; collation = C.None; schema = S.None }
+plain_column t n = record { ty = t; length = n; precision = 0; scale = 0; collation = None; schema = None }
 
 -- ---- names that were read
 
@@ -156,26 +151,31 @@ name_bytes s n = take (2 * n.units) (drop n.start s)
 abbrev pub NameIn : List ℕ → Name → Type 0
 NameIn s n = n.start + 2 * n.units ≤ length s
 
-abbrev pub name_read_told : List ℕ → NameRead → Read (List ℕ)
-name_read_told s (NR.Name n next) = took (name_bytes s n) next.at
-name_read_told s (NR.Refused e) = stops (refusal_told e)
+abbrev pub name_read_told : List ℕ → Result (Name × Cursor) Refusal → Read (List ℕ)
+name_read_told s (Ok (n, next)) = took (name_bytes s n) next.at
+name_read_told s (Err e) = stops (refusal_told e)
 
 -- a name that was read starts at a place and ends at the next one
-abbrev pub NameFrom : List ℕ → ℕ → NameRead → Type 0
-NameFrom s place (NR.Name n next) = (n.start ≡ place) × (next.at ≡ n.start + 2 * n.units) × NameIn s n
-NameFrom s place (NR.Refused e) = Unit {0}
+abbrev pub NameFrom : List ℕ → ℕ → Result (Name × Cursor) Refusal → Type 0
+NameFrom s place (Ok (n, next)) = (n.start ≡ place) × (next.at ≡ n.start + 2 * n.units) × NameIn s n
+NameFrom s place (Err e) = Unit {0}
+
+-- three names as a schema
+abbrev pub schema_of : Name → Name → Name → Schema
+schema_of a b c = record { database = a; owner = b; collection = c }
 
 -- the names of a schema that was read start at a place, one behind another's bytes and its own count
-abbrev pub SchemaFrom : List ℕ → ℕ → Schema → Type 0
-SchemaFrom s place S.None = Unit {0}
-SchemaFrom s place (S.Names a b c) =
-    (a.start ≡ place) × (b.start ≡ a.start + 2 * a.units + 1) × (c.start ≡ b.start + 2 * b.units + 2) × NameIn s c
+abbrev pub SchemaFrom : List ℕ → ℕ → Option Schema → Type 0
+SchemaFrom s place None = Unit {0}
+SchemaFrom s place (Some n) =
+    (n.database.start ≡ place) × (n.owner.start ≡ n.database.start + 2 * n.database.units + 1)
+    × (n.collection.start ≡ n.owner.start + 2 * n.owner.units + 2) × NameIn s n.collection
 
 -- behind two names that were read: they are the column's, and the third starts at a place
-abbrev pub ThirdFrom : List ℕ → Name → Name → ℕ → ColumnRead → Type 0
-ThirdFrom s a b place (CR.Column c next) = (third : Name) × (c.schema ≡ S.Names a b third) × (third.start ≡ place) × NameIn s third
-ThirdFrom s a b place (CR.Refused e) = Unit {0}
+abbrev pub ThirdFrom : List ℕ → Name → Name → ℕ → Result (Column × Cursor) Refusal → Type 0
+ThirdFrom s a b place (Ok (c, next)) = (third : Name) × (c.schema ≡ Some (schema_of a b third)) × (third.start ≡ place) × NameIn s third
+ThirdFrom s a b place (Err e) = Unit {0}
 
-abbrev pub NamesFrom : List ℕ → ℕ → ColumnRead → Type 0
-NamesFrom s place (CR.Column c next) = SchemaFrom s place c.schema
-NamesFrom s place (CR.Refused e) = Unit {0}
+abbrev pub NamesFrom : List ℕ → ℕ → Result (Column × Cursor) Refusal → Type 0
+NamesFrom s place (Ok (c, next)) = SchemaFrom s place c.schema
+NamesFrom s place (Err e) = Unit {0}

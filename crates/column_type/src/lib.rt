@@ -72,18 +72,11 @@ pub enum TypeId {
     SsVariant,
 }
 
-// A type byte's type.
+// COLLATION's four bytes as a number, and its sort byte.
 #[derive(Clone, Copy)]
-pub enum TypeRead {
-    Type(TypeId),
-    Unknown,
-}
-
-// COLLATION's four bytes as a number, and its sort byte; or none.
-#[derive(Clone, Copy)]
-pub enum Collation {
-    None,
-    Of(u32, u8),
+pub struct Collation {
+    pub info: u32,
+    pub sort: u8,
 }
 
 // A name of XML_INFO: a span of the lent buffer, its start byte and its count of UTF-16 units.
@@ -93,11 +86,12 @@ pub struct Name {
     pub units: usize,
 }
 
-// XML_INFO's names: database, owning schema and schema collection; or none.
+// XML_INFO's names: database, owning schema and schema collection.
 #[derive(Clone, Copy)]
-pub enum Schema {
-    None,
-    Names(Name, Name, Name),
+pub struct Schema {
+    pub database: Name,
+    pub owner: Name,
+    pub collection: Name,
 }
 
 #[derive(Clone, Copy)]
@@ -106,22 +100,8 @@ pub struct Column {
     pub length: u64,
     pub precision: u8,
     pub scale: u8,
-    pub collation: Collation,
-    pub schema: Schema,
-}
-
-// A column that was read, and the cursor behind it.
-#[derive(Clone, Copy)]
-pub enum ColumnRead {
-    Column(Column, Cursor),
-    Refused(Refusal),
-}
-
-// A name that was read, and the cursor behind it.
-#[derive(Clone, Copy)]
-pub enum NameRead {
-    Name(Name, Cursor),
-    Refused(Refusal),
+    pub collation: Option<Collation>,
+    pub schema: Option<Schema>,
 }
 
 // A column with a type and a length, and nothing else.
@@ -133,7 +113,7 @@ pub fn plain(t: TypeId, n: u64) -> Column
         length: n,
         precision: 0,
         scale: 0,
-        collation: Collation::None,
-        schema: Schema::None,
+        collation: None,
+        schema: None,
     }
 }

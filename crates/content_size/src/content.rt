@@ -4,20 +4,20 @@ ghost use Rattle.std.specs.Prelude.{◌≡◌, List, ℕ, ◌<◌, eqb, length};
 ghost use Rattle.format.specs.Answer.{and_then, wrote};
 ghost use Rattle.format.specs.Plp.{plp_mark};
 ghost use Rattle.format.specs.Value.{content_bound, write_family};
-ghost use Rattle.wire.specs.Told.{wrote_told};
+ghost use Rattle.wire.specs.Told.{answer_told};
 ghost use Rattle.value_kind.specs.Told.{content_kind_told, family_told, span_told};
 ghost use Rattle.value_kind.specs.Form.{given_of, encoded, encoded_part, formed, framed};
 
 use value_kind::family::{ContentKind, Family};
 use value_kind::{Span, family};
-use wire::{Refusal, Wrote, marks};
+use wire::{Refusal, marks};
 
 // The content bytes: binary as it is, a string in UTF-16LE.
-fn encoded(k: ContentKind, s: &[u8]) -> Wrote
-    ensures { wrote_told result ≡ wrote (encoded (content_kind_told k) s.now) }
+fn encoded(k: ContentKind, s: &[u8]) -> Result<usize, Refusal>
+    ensures { answer_told result ≡ wrote (encoded (content_kind_told k) s.now) }
 {
     match k {
-        ContentKind::Binary => Wrote::Bytes(s.len()),
+        ContentKind::Binary => Ok(s.len()),
         ContentKind::String => text::utf16_size(s),
     }
 }
@@ -36,31 +36,33 @@ pub fn formed(plp: bool, n: u32) -> usize
 }
 
 // Content within a bound, in its form, behind a head of so many bytes.
-fn framed(k: ContentKind, s: &[u8], head: u8, plp: bool, bound: u32) -> Wrote
-    ensures { (h : List ℕ) → length h ≡ head → wrote_told result ≡ wrote (and_then (encoded (content_kind_told k) s.now) (framed h plp bound)) }
+fn framed(k: ContentKind, s: &[u8], head: u8, plp: bool, bound: u32) -> Result<usize, Refusal>
+    ensures { (h : List ℕ) → length h ≡ head → answer_told result ≡ wrote (and_then (encoded (content_kind_told k) s.now) (framed h plp bound)) }
 {
-    let content = encoded(k, s);
-    match content {
-        Wrote::Bytes(n) => {
-            if (bound as usize) < n {
-                return Wrote::Refused(Refusal::Long);
-            }
-            Wrote::Bytes(head as usize + formed(plp, n as u32))
-        }
-        Wrote::Refused(e) => Wrote::Refused(e),
+    let n = encoded(k, s)?;
+    if (bound as usize) < n {
+        return Err(Refusal::Long);
     }
+    Ok(head as usize + formed(plp, n as u32))
 }
 
 // The same of a span, which must lie in the buffer.
-pub fn framed_span(k: ContentKind, p: Span, buffer: &[u8], head: u8, plp: bool, bound: u32) -> Wrote
-    ensures { (h : List ℕ) → length h ≡ head → wrote_told result ≡ wrote (and_then (encoded_part (content_kind_told k) (span_told buffer.now p)) (framed h plp bound)) }
+pub fn framed_span(
+    k: ContentKind,
+    p: Span,
+    buffer: &[u8],
+    head: u8,
+    plp: bool,
+    bound: u32,
+) -> Result<usize, Refusal>
+    ensures { (h : List ℕ) → length h ≡ head → answer_told result ≡ wrote (and_then (encoded_part (content_kind_told k) (span_told buffer.now p)) (framed h plp bound)) }
 {
     let start = p.start;
     let count = p.count;
     if wire::inside(buffer, start, count) {
         return framed(k, &buffer[start..start + count], head, plp, bound);
     }
-    Wrote::Refused(Refusal::Missing)
+    Err(Refusal::Missing)
 }
 
 // Is content of that declared length PLP?
@@ -84,18 +86,24 @@ fn content_bound(declared: u32) -> u32
 }
 
 // Content under a family.
-pub fn content(f: Family, declared: u32, k: ContentKind, p: Span, buffer: &[u8]) -> Wrote
-    ensures { wrote_told result ≡ wrote (write_family declared (family_told f) (given_of (content_kind_told k) (span_told buffer.now p))) }
+pub fn content(
+    f: Family,
+    declared: u32,
+    k: ContentKind,
+    p: Span,
+    buffer: &[u8],
+) -> Result<usize, Refusal>
+    ensures { answer_told result ≡ wrote (write_family declared (family_told f) (given_of (content_kind_told k) (span_told buffer.now p))) }
 {
     match f {
-        Family::Fixed(_) => Wrote::Refused(Refusal::Kind),
-        Family::LengthByte(_) => Wrote::Refused(Refusal::Kind),
+        Family::Fixed(_) => Err(Refusal::Kind),
+        Family::LengthByte(_) => Err(Refusal::Kind),
         Family::Content(wanted) => {
             if family::same_content(wanted, k) {
                 return framed_span(k, p, buffer, 0, is_plp(declared), content_bound(declared));
             }
-            Wrote::Refused(Refusal::Kind)
+            Err(Refusal::Kind)
         }
-        Family::NotCarried => Wrote::Refused(Refusal::NotCarried),
+        Family::NotCarried => Err(Refusal::NotCarried),
     }
 }

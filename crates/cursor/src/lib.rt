@@ -15,7 +15,7 @@ ghost use Rattle.wire.specs.Told.{width_of, read_guid};
 ghost use Rattle.column_type.specs.Told.{column_told};
 ghost use Rattle.value_read.specs.Told.{found_out, room_out};
 ghost use Rattle.value_part.specs.Told.{short_content};
-ghost use Rattle.cursor.specs.Told.{byte_told, number_told, NumberBelow, guid_told, header_told, column_read_told, NamesFrom, value_read_told, CanonicalRead, opened_told, joined_told};
+ghost use Rattle.cursor.specs.Told.{read_told, NumberBelow, header_told, column_read_told, NamesFrom, value_read_told, CanonicalRead, opened_told, joined_told};
 
 use column_type::Column;
 use header::Header;
@@ -29,139 +29,78 @@ pub struct Cursor {
     pub at: usize,
 }
 
-#[derive(Clone, Copy)]
-pub enum ByteRead {
-    Byte(u8, Cursor),
-    Refused(Refusal),
-}
-
-#[derive(Clone, Copy)]
-pub enum NumberRead {
-    Number(u64, Cursor),
-    Refused(Refusal),
-}
-
-#[derive(Clone, Copy)]
-pub enum GuidRead {
-    Guid(Guid, Cursor),
-    Refused(Refusal),
-}
-
-#[derive(Clone, Copy)]
-pub enum HeaderRead {
-    Header(Header, Cursor),
-    Refused(Refusal),
-}
-
-#[derive(Clone, Copy)]
-pub enum ColumnRead {
-    Column(Column, Cursor),
-    Refused(Refusal),
-}
-
-#[derive(Clone, Copy)]
-pub enum ValueRead {
-    Value(Found, Cursor),
-    Refused(Refusal),
-}
-
 // A walk behind the eight bytes; or the cursor behind a null, which has no chunks.
 #[derive(Clone, Copy)]
-pub enum WalkOpened {
+pub enum Opened {
     Walk(Walk),
     Null(Cursor),
-    Refused(Refusal),
-}
-
-// A PLP value whose content, so many bytes, stands at the front of the room.
-#[derive(Clone, Copy)]
-pub enum Joined {
-    Null(Cursor),
-    Content(usize, Cursor),
-    Refused(Refusal),
 }
 
 impl Cursor {
     // The byte at the cursor.
-    pub fn byte(self, s: &[u8]) -> ByteRead
-        ensures { byte_told result ≡ read_at read_byte s.now self.at }
+    pub fn byte(self, s: &[u8]) -> Result<(u8, Cursor), Refusal>
+        ensures { read_told result ≡ read_at read_byte s.now self.at }
     {
         let from = wire::Cursor { at: self.at };
-        match from.byte(s) {
-            wire::ByteRead::Byte(b, next) => ByteRead::Byte(b, Cursor { at: next.at }),
-            wire::ByteRead::Refused(e) => ByteRead::Refused(e),
-        }
+        let (b, next) = from.byte(s)?;
+        Ok((b, Cursor { at: next.at }))
     }
 
     // The number at the cursor, low byte first.
-    pub fn low(self, s: &[u8], w: Width) -> NumberRead
-        ensures { (number_told result ≡ read_at (read_low (width_of w)) s.now self.at) × NumberBelow (256 ^ width_of w) result }
+    pub fn low(self, s: &[u8], w: Width) -> Result<(u64, Cursor), Refusal>
+        ensures { (read_told result ≡ read_at (read_low (width_of w)) s.now self.at) × NumberBelow (256 ^ width_of w) result }
     {
         let from = wire::Cursor { at: self.at };
-        match from.low(s, w) {
-            wire::NumberRead::Number(n, next) => NumberRead::Number(n, Cursor { at: next.at }),
-            wire::NumberRead::Refused(e) => NumberRead::Refused(e),
-        }
+        let (n, next) = from.low(s, w)?;
+        Ok((n, Cursor { at: next.at }))
     }
 
     // The number at the cursor, high byte first.
-    pub fn high(self, s: &[u8], w: Width) -> NumberRead
-        ensures { (number_told result ≡ read_at (read_high (width_of w)) s.now self.at) × NumberBelow (256 ^ width_of w) result }
+    pub fn high(self, s: &[u8], w: Width) -> Result<(u64, Cursor), Refusal>
+        ensures { (read_told result ≡ read_at (read_high (width_of w)) s.now self.at) × NumberBelow (256 ^ width_of w) result }
     {
         let from = wire::Cursor { at: self.at };
-        match from.high(s, w) {
-            wire::NumberRead::Number(n, next) => NumberRead::Number(n, Cursor { at: next.at }),
-            wire::NumberRead::Refused(e) => NumberRead::Refused(e),
-        }
+        let (n, next) = from.high(s, w)?;
+        Ok((n, Cursor { at: next.at }))
     }
 
     // The GUID whose sixteen bytes in wire order stand at the cursor.
-    pub fn guid(self, s: &[u8]) -> GuidRead
-        ensures { guid_told result ≡ read_at read_guid s.now self.at }
+    pub fn guid(self, s: &[u8]) -> Result<(Guid, Cursor), Refusal>
+        ensures { read_told result ≡ read_at read_guid s.now self.at }
     {
         let from = wire::Cursor { at: self.at };
-        match from.guid(s) {
-            wire::GuidRead::Guid(g, next) => GuidRead::Guid(g, Cursor { at: next.at }),
-            wire::GuidRead::Refused(e) => GuidRead::Refused(e),
-        }
+        let (g, next) = from.guid(s)?;
+        Ok((g, Cursor { at: next.at }))
     }
 
     // The packet header at the cursor.
-    pub fn header(self, s: &[u8]) -> HeaderRead
+    pub fn header(self, s: &[u8]) -> Result<(Header, Cursor), Refusal>
         ensures { header_told result ≡ read_at read_header s.now self.at }
     {
         let from = wire::Cursor { at: self.at };
-        match header::read_header(s, from) {
-            header::HeaderRead::Header(h, next) => HeaderRead::Header(h, Cursor { at: next.at }),
-            header::HeaderRead::Refused(e) => HeaderRead::Refused(e),
-        }
+        let (h, next) = header::read_header(s, from)?;
+        Ok((h, Cursor { at: next.at }))
     }
 
     // The column's descriptor at the cursor. Names are spans of the whole input.
-    pub fn column(self, s: &[u8]) -> ColumnRead
+    pub fn column(self, s: &[u8]) -> Result<(Column, Cursor), Refusal>
         ensures told { column_read_told s.now result ≡ read_at read_column s.now self.at }
         ensures names { NamesFrom s.now (self.at + 3) result }
     {
         let from = wire::Cursor { at: self.at };
-        match column_read::read_column(s, from) {
-            column_type::ColumnRead::Column(c, next) => {
-                ColumnRead::Column(c, Cursor { at: next.at })
-            }
-            column_type::ColumnRead::Refused(e) => ColumnRead::Refused(e),
-        }
+        let (c, next) = column_read::read_column(s, from)?;
+        Ok((c, Cursor { at: next.at }))
     }
 
     // The value of the column at the cursor; PLP content is joined at the front of the room.
-    pub fn value(self, c: Column, s: &[u8], out: &mut [u8]) -> ValueRead
+    pub fn value(self, c: Column, s: &[u8], out: &mut [u8]) -> Result<(Found, Cursor), Refusal>
         ensures told { (b : List ℕ) → value_read_told result ≡ found_out (column_told b c) s.now self.at out.old }
         ensures canonical { CanonicalRead result }
         ensures room { (b : List ℕ) → out.new ≡ room_out (column_told b c) s.now self.at out.old }
     {
         let from = wire::Cursor { at: self.at };
-        match value_read::read_value(c, s, from, out) {
-            value_found::ValueRead::Value(f, next) => ValueRead::Value(f, Cursor { at: next.at }),
-            value_found::ValueRead::Refused(e) => ValueRead::Refused(e),
-        }
+        let (f, next) = value_read::read_value(c, s, from, out)?;
+        Ok((f, Cursor { at: next.at }))
     }
 
     // The content of the short value at the cursor, as a part of the input; the empty part where there
@@ -173,27 +112,29 @@ impl Cursor {
     }
 
     // The eight bytes of a PLP value at the cursor, and the walk behind them.
-    pub fn open_walk(self, s: &[u8], text: bool) -> WalkOpened
+    pub fn open_walk(self, s: &[u8], text: bool) -> Result<Opened, Refusal>
         ensures { opened_told result ≡ open_walk text s.now self.at }
     {
         let from = wire::Cursor { at: self.at };
-        match plp::open_walk(s, from, text) {
-            plp::WalkOpened::Walk(w) => WalkOpened::Walk(w),
-            plp::WalkOpened::Null(next) => WalkOpened::Null(Cursor { at: next.at }),
-            plp::WalkOpened::Refused(e) => WalkOpened::Refused(e),
+        match plp::open_walk(s, from, text)? {
+            plp::Opened::Walk(w) => Ok(Opened::Walk(w)),
+            plp::Opened::Null(next) => Ok(Opened::Null(Cursor { at: next.at })),
         }
     }
 
-    // The PLP value at the cursor, its chunks joined at the front of the room.
-    pub fn join_plp(self, s: &[u8], text: bool, out: &mut [u8]) -> Joined
+    // The PLP value at the cursor, its chunks joined at the front of the room, and how many bytes its
+    // content has there; none where it is null.
+    pub fn join_plp(
+        self,
+        s: &[u8],
+        text: bool,
+        out: &mut [u8],
+    ) -> Result<(Option<usize>, Cursor), Refusal>
         ensures answer { joined_told result ≡ map_read counted (join_plp text s.now self.at (length out.old)) }
         ensures room { out.new ≡ room_after_join text s.now self.at out.old }
     {
         let from = wire::Cursor { at: self.at };
-        match plp_join::join_plp(s, from, text, out) {
-            plp_join::Joined::Null(next) => Joined::Null(Cursor { at: next.at }),
-            plp_join::Joined::Content(n, next) => Joined::Content(n, Cursor { at: next.at }),
-            plp_join::Joined::Refused(e) => Joined::Refused(e),
-        }
+        let (joined, next) = plp_join::join_plp(s, from, text, out)?;
+        Ok((joined, Cursor { at: next.at }))
     }
 }

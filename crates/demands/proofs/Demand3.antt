@@ -16,6 +16,7 @@
 --
 -- Why it holds: the contracts are equations with the definitions, of which `format/proofs/Normal.normal-form` says all this.
 -- Assumes nothing.
+use Rattle.std.specs.Prelude.{Err, Ok, Result}
 use mathlib.Core.Path.{◌≡◌, sym, ap, ◌∙◌, subst}
 use mathlib.Core.Logic.{◌↔◌}
 use mathlib.Core.Bool.{false}
@@ -46,21 +47,15 @@ use Rattle.column_type.specs.Told.{column_told}
 use Rattle.column_type.proofs.RoundTrip.{read-written}
 use Rattle.columns.specs.Told.{columns_told}
 use Rattle.cursor.specs.declared.Cursor.{Cursor}
-use Rattle.cursor.specs.declared.ColumnRead.TheVariants as CR
 use Rattle.cursor.specs.Told.{column_read_told}
-use Rattle.wire.specs.declared.Wrote.{Wrote}
-use Rattle.wire.specs.declared.Wrote.TheVariants as W
 use Rattle.wire.proofs.Decided.{Writes}
 use Rattle.row_place.specs.declared.RowPlace.{RowPlace}
 use Rattle.row_place.specs.Told.{most_room}
-use Rattle.read_step.specs.declared.RowRead.{RowRead}
-use Rattle.read_step.specs.declared.RowRead.TheVariants as R
 use Rattle.read_step.specs.Told.{first_place, place_told}
 use Rattle.row_read.proofs.Decided.{ReadsRow, read_out}
 use Rattle.row_read.proofs.Accepted.{accepted}
-use Rattle.normal_step.specs.declared.Normal.{Normal}
-use Rattle.normal_step.specs.declared.Normal.TheVariants as N
 use Rattle.row_normal.proofs.Decided.{NormalisesRow, normal_of}
+use Rattle.wire.specs.declared.Refusal.{Refusal}
 
 -- ---- the calls
 
@@ -70,7 +65,7 @@ pub record Holds (cols : List Column) (s : List ℕ) (at : ℕ) (vs : List Value
   pub after : List ℕ
   pub place : RowPlace
   pub room : length out ≤ most_room
-  pub call : ReadsRow cols s at out (R.Row place (record { at = next })) after
+  pub call : ReadsRow cols s at out (Ok (place, (record { at = next }))) after
   pub values : (accepted cols s at out place (record { at = next }) after room call []).values ≡ vs
 
 -- a call of `normal_row` that answered with a row, and its normal form
@@ -78,7 +73,7 @@ pub record Form (cols : List Column) (s : List ℕ) (at : ℕ) (form : List ℕ)
   pub out : List ℕ
   pub after : List ℕ
   pub count : ℕ
-  pub call : NormalisesRow cols s at out (N.Bytes count (record { at = next })) after
+  pub call : NormalisesRow cols s at out (Ok (count, (record { at = next }))) after
   pub is : take count after ≡ form
 
 -- ---- what the definitions say of an answered call
@@ -178,17 +173,18 @@ module _ (cols : List Column) (s : List ℕ) (at : ℕ) where
           ∙ rw (le-ltb (length out) (length (copied_out_row cs vs)) l)
 
       -- `read_row` on the form, with room for what it copies out: the same values, and it ends where the form ends
-      pub back : (out : List ℕ) (r : RowRead) (after : List ℕ) → length out ≤ most_room → length (copied_out_row cs vs) ≤ length out →
+      pub back : (out : List ℕ) (r : Result (RowPlace × Cursor) Refusal) (after : List ℕ) → length out ≤ most_room →
+          length (copied_out_row cs vs) ≤ length out →
           ReadsRow cols onward 0 out r after → Holds cols onward 0 vs (length form)
-      back out (R.Row p next) after room l c =
+      back out (Ok (p, next)) after room l c =
           let e : took (place_told p) next.at ≡ took (first_place 0) (length form) =
           c.told [] ∙ ap (map_read (λ (ws : List Value). first_place 0)) (fitting out l) in
           let n : next.at ≡ length form = cc e in
-          let call = subst (λ (k : ℕ). ReadsRow cols onward 0 out (R.Row p (record { at = k })) after) n c in
+          let call = subst (λ (k : ℕ). ReadsRow cols onward 0 out (Ok (p, (record { at = k }))) after) n c in
           let a = accepted cols onward 0 out p (record { at = length form }) after room call [] in
           let v : took a.values (length form) ≡ took vs (length form) = sym a.reads ∙ reads_again in
           record { out = out; after = after; place = p; room = room; call = call; values = cc v }
-      back out (R.Refused e) after room l c = clash (cc (c.told [] ∙ ap (map_read (λ (ws : List Value). first_place 0)) (fitting out l)))
+      back out (Err e) after room l c = clash (cc (c.told [] ∙ ap (map_read (λ (ws : List Value). first_place 0)) (fitting out l)))
 
       normal_again : read_at (normal cs) onward 0 ≡ took form (length form)
       normal_again =
@@ -202,10 +198,10 @@ module _ (cols : List Column) (s : List ℕ) (at : ℕ) where
           ap (λ (q : Read (List ℕ)). fitted_read (λ (bytes : List ℕ). bytes) q (length out)) normal_again ∙ rw (le-ltb (length out) (length form) l)
 
       -- `normal_row` on the form, with room for it: the form
-      pub own : (out : List ℕ) (r : Normal) (after : List ℕ) → length form ≤ length out → NormalisesRow cols onward 0 out r after →
+      pub own : (out : List ℕ) (r : Result (ℕ × Cursor) Refusal) (after : List ℕ) → length form ≤ length out → NormalisesRow cols onward 0 out r after →
           Form cols onward 0 form (length form)
       unfolding room_after_read
-      own out (N.Bytes count next) after l c =
+      own out (Ok (count, next)) after l c =
           let e : took count next.at ≡ took (length form) (length form) = c.answer [] ∙ ap (map_read length) (roomy out l) in
           let k : count ≡ length form = cc e in
           let n : next.at ≡ length form = cc e in
@@ -215,10 +211,10 @@ module _ (cols : List Column) (s : List ℕ) (at : ℕ) where
             out = out;
             after = after;
             count = count;
-            call = subst (λ (i : ℕ). NormalisesRow cols onward 0 out (N.Bytes count (record { at = i })) after) n c;
+            call = subst (λ (i : ℕ). NormalisesRow cols onward 0 out (Ok (count, (record { at = i }))) after) n c;
             is = front count form after out (sym k) room;
           }
-      own out (N.Refused e) after l c = clash (cc (c.answer [] ∙ ap (map_read length) (roomy out l)))
+      own out (Err e) after l c = clash (cc (c.answer [] ∙ ap (map_read length) (roomy out l)))
 
 -- two rows under one list of columns
 module _ (cols : List Column) (s t : List ℕ) (a b : ℕ) (p : Bytes s) (q : Bytes t) (vs ws : List Value) (form gorm : List ℕ) (k l m n : ℕ) where
@@ -233,7 +229,7 @@ module _ (cols : List Column) (s t : List ℕ) (a b : ℕ) (p : Bytes s) (q : By
 -- ---- descriptors
 
 -- A descriptor that was read, written again with room, is exactly the bytes consumed, save Xml with a marker other than 0 or 1.
-module _ (s : List ℕ) (at : ℕ) (p : Bytes s) (c : Column) (next : Cursor) (read : column_read_told s (CR.Column c next) ≡ read_at D.read_column s at)
+module _ (s : List ℕ) (at : ℕ) (p : Bytes s) (c : Column) (next : Cursor) (read : column_read_told s (Ok (c, next)) ≡ read_at D.read_column s at)
     (plain : odd_marker (drop at s) ≡ false) where
   abbrev count : ℕ
   count = next.at - at
@@ -253,11 +249,11 @@ module _ (s : List ℕ) (at : ℕ) (p : Bytes s) (c : Column) (next : Cursor) (r
       let f : ltb (length out) (length bytes) ≡ false = le-ltb (length out) (length bytes) (omega (arith, l, counted)) in
       ap (λ (g : Answer (List ℕ)). fitted g (length out)) (read-written s at c (record { at = next.at }) p read plain) ∙ rw f
 
-  pub again : (out : List ℕ) (r : Wrote) (after : List ℕ) → count ≤ length out → Writes (write_column (column_told s c)) out r after →
-      (r ≡ W.Bytes count) × (take count after ≡ bytes)
+  pub again : (out : List ℕ) (r : Result ℕ Refusal) (after : List ℕ) → count ≤ length out → Writes (write_column (column_told s c)) out r after →
+      (r ≡ Ok count) × (take count after ≡ bytes)
   unfolding wrote room_after
-  again out (W.Bytes n) after l w =
+  again out (Ok n) after l w =
       let e : gives n ≡ gives (length bytes) = w.answer ∙ ap wrote (given out l) in
       let k : n ≡ length bytes = cc e in
-      (ap W.Bytes (k ∙ counted), front count bytes after out counted (w.room ∙ ap (λ (g : Answer (List ℕ)). room_after g out) (given out l)))
-  again out (W.Refused e) after l w = clash (cc (w.answer ∙ ap wrote (given out l)))
+      (ap Ok (k ∙ counted), front count bytes after out counted (w.room ∙ ap (λ (g : Answer (List ℕ)). room_after g out) (given out l)))
+  again out (Err e) after l w = clash (cc (w.answer ∙ ap wrote (given out l)))

@@ -5,50 +5,36 @@
 
 ghost use Rattle.std.specs.Prelude.{◌≤◌, length};
 
-use morelquilt::{
-    ByteLen, Column, Cursor, Found, Normal, RowRead, RowValue, Scalar, TypeId, UShortLen, Value,
-    Wrote,
-};
+use morelquilt::{ByteLen, Column, Cursor, Found, Scalar, TypeId, UShortLen, Value};
 use std::io;
 
 // Prints the limit that a value holds.
 fn print(rt: &impl Print, found: Found) -> io::Result<()> {
-    match found {
-        Found::Scalar(v) => match v {
-            Scalar::I32(limit) => {
-                words::signed(rt, bits::signed::of_i32(limit) as u64, 2147483648)?;
-                words::text(rt, b"\n")?;
-                Ok(())
-            }
-            _ => Ok(()),
-        },
-        _ => Ok(()),
+    if let Found::Scalar(Scalar::I32(limit)) = found {
+        println!(rt; "{limit}")?;
     }
+    Ok(())
 }
 
 // Reads a row and takes its value.
 fn read_limit(rt: &impl Print, c: Column, row: &[u8]) -> io::Result<()> {
-    let read = morelquilt::read_held_row([c; 1024], 1, row, Cursor { at: 0 }, &mut []);
-    match read {
-        RowRead::Row(first, _) => {
-            let taken = first.value(c, row);
-            match taken {
-                RowValue::Value(limit, _) => print(rt, limit),
-                RowValue::Refused(_) => Ok(()),
-            }
-        }
-        RowRead::Refused(_) => Ok(()),
-    }
+    let Ok((first, _)) = morelquilt::read_held_row([c; 1024], 1, row, Cursor { at: 0 }, &mut [])
+    else {
+        return Ok(());
+    };
+    let Ok((limit, _)) = first.value(c, row) else {
+        return Ok(());
+    };
+    print(rt, limit)
 }
 
 // A limit at the front of the room: how many bytes it has, none where it is refused.
 fn write_limit(c: Column, limit: i32, room: &mut [u8]) -> usize
     ensures { result ≤ length room.old }
 {
-    let wrote = morelquilt::write_value(c, Value::Scalar(Scalar::I32(limit)), &[], room);
-    match wrote {
-        Wrote::Bytes(n) => n,
-        Wrote::Refused(_) => 0,
+    match morelquilt::write_value(c, Value::Scalar(Scalar::I32(limit)), &[], room) {
+        Ok(n) => n,
+        Err(_) => 0,
     }
 }
 
@@ -63,10 +49,9 @@ fn there_and_back(rt: &impl Print, c: Column, limit: i32) -> io::Result<()> {
 fn form(c: Column, row: &[u8], room: &mut [u8]) -> usize
     ensures { result ≤ length room.old }
 {
-    let normal = morelquilt::normal_held_row([c; 1024], 1, row, Cursor { at: 0 }, room);
-    match normal {
-        Normal::Bytes(n, _) => n,
-        Normal::Refused(_) => 0,
+    match morelquilt::normal_held_row([c; 1024], 1, row, Cursor { at: 0 }, room) {
+        Ok((n, _)) => n,
+        Err(_) => 0,
     }
 }
 
@@ -76,7 +61,7 @@ fn same(c: Column, one: &[u8], other: &[u8]) -> bool {
     let mut b = [0u8; 64];
     let n = form(c, one, &mut a);
     let m = form(c, other, &mut b);
-    check::same(&a[..n], &b[..m])
+    a[..n] == b[..m]
 }
 
 fn main(rt: HostRuntime) -> io::Result<()> {
@@ -86,7 +71,7 @@ fn main(rt: HostRuntime) -> io::Result<()> {
     let one = b"\xFE\xFF\xFF\xFF\xFF\xFF\xFF\xFF\x03\0\0\0\xAA\xBB\xCC\0\0\0\0";
     let long = morelquilt::plain(TypeId::UShort(UShortLen::BigVarBin), 65535);
     if same(long, two, one) {
-        words::text(&rt, b"the same\n")?;
+        println!(&rt; "the same")?;
     }
     Ok(())
 }

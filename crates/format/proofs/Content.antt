@@ -2,10 +2,10 @@
 -- A value fits where it is null, or content within the bound and of an even count where it is text. Under 65,535 it is the PLP codec; else the short form,
 -- whose two length bytes say every length that is allowed and one more, the null's.
 -- Assumes nothing.
+use Rattle.std.specs.Prelude.{None, Option, Some}
 use mathlib.Core.Path.{◌≡◌, refl, ap}
 use mathlib.Core.List.{List, [], ◌++◌}
 use mathlib.Core.Bool.{Bool, true, false}
-use mathlib.Core.Option.{Option, none, some}
 use Prim.Native.Nat.{ℕ, ◌+◌, ◌^◌, ◌<◌, ◌≤◌}
 use native.Mathlib.Omega.{arith}
 use lib.ListN.{length, drop}
@@ -27,19 +27,19 @@ pub data Held (k : ContentKind) (declared : ℕ) : Value → Type 0 where
 
 -- the short form
 abbrev short_form : Option (List ℕ) → List ℕ
-short_form none = low_bytes 2 short_null
-short_form (some c) = short_bytes c
+short_form None = low_bytes 2 short_null
+short_form (Some c) = short_bytes c
 
 -- the bytes of content, or null, of either kind: those of the form that the declared length says
 encode-short : (k : ContentKind) (n : ℕ) (o : Option (List ℕ)) → eqb n plp_mark ≡ false → encode_in n (content k) (content_value k o) ≡ short_form o
-encode-short k n none e = rw e
-encode-short ContentKind.binary n (some c) e = rw e
-encode-short ContentKind.string n (some c) e = rw e
+encode-short k n None e = rw e
+encode-short ContentKind.binary n (Some c) e = rw e
+encode-short ContentKind.string n (Some c) e = rw e
 
 encode_plp : (k : ContentKind) (n : ℕ) (o : Option (List ℕ)) → eqb n plp_mark ≡ true → encode_in n (content k) (content_value k o) ≡ plp_bytes o
-encode_plp k n none e = rw e
-encode_plp ContentKind.binary n (some c) e = rw e
-encode_plp ContentKind.string n (some c) e = rw e
+encode_plp k n None e = rw e
+encode_plp ContentKind.binary n (Some c) e = rw e
+encode_plp ContentKind.string n (Some c) e = rw e
 
 module _ (n : ℕ) (k : ContentKind) where
   -- what was read fits, and takes no more bytes again
@@ -51,7 +51,7 @@ module _ (n : ℕ) (k : ContentKind) where
     below : (c : List ℕ) → length c ≤ n → length c < short_null
     below c l = omega (arith, i, l, eqb-false n plp_mark e)
 
-    short-read : (c rest : List ℕ) → Plps.Within (is_text k) n (some c) → read_short k n (length c) (c ++ rest) ≡ took (content_value k (some c)) (length c)
+    short-read : (c rest : List ℕ) → Plps.Within (is_text k) n (Some c) → read_short k n (length c) (c ++ rest) ≡ took (content_value k (Some c)) (length c)
     short-read c rest f =
         let a : eqb (length c) short_null ≡ false = ne_eqb (length c) short_null (λ z. omega (arith, z, below c f.0)) in
         let b : ltb n (length c) ≡ false = le-ltb n (length c) f.0 in
@@ -59,10 +59,10 @@ module _ (n : ℕ) (k : ContentKind) where
 
     short_again : (o : Option (List ℕ)) (rest : List ℕ) → Plps.Within (is_text k) n o →
         then_read (read_low 2) (read_short k n) (short_form o ++ rest) ≡ took (content_value k o) (length (short_form o))
-    short_again none rest f =
+    short_again None rest f =
         then_again (read_low 2) (read_short k n) (low_bytes 2 short_null) [] rest short_null Value.null (λ more. low_again 2 short_null more (lit< tt)) refl
-    short_again (some c) rest f =
-        then_again (read_low 2) (read_short k n) (low_bytes 2 (length c)) c rest (length c) (content_value k (some c))
+    short_again (Some c) rest f =
+        then_again (read_low 2) (read_short k n) (low_bytes 2 (length c)) c rest (length c) (content_value k (Some c))
         (λ more. low_again 2 (length c) more (omega (arith, below c f.0)))
         (short-read c rest f)
 
@@ -75,16 +75,16 @@ module _ (n : ℕ) (k : ContentKind) where
         let t = low-took 2 s w p.1 p.3 in
         let u = p.5 in
         split (eqb w short_null)
-        (λ _ q. let d : Value.null ≡ v = cc in (none, d, tt, omega arith))
+        (λ _ q. let d : Value.null ≡ v = cc in (None, d, tt, omega arith))
         (λ _ q.
         let a = past (ltb n w) long _ v p.2 q in
         let b = past (is_odd (is_text k) w) sequence _ v p.2 a.1 in
-        let c = map-took (λ c. content_value k (some c)) (read_bytes w r) v p.2 b.1 in
+        let c = map-took (λ c. content_value k (Some c)) (read_bytes w r) v p.2 b.1 in
         let d = bytes-took w r c.0 p.2 c.1 in
         let l = d.2 in
         let g = d.1 in
         let x = ltb-false n w a.0 in
-        (some c.0, c.2, (omega arith, rw l b.0), omega arith))
+        (Some c.0, c.2, (omega arith, rw l b.0), omega arith))
         p.4
 
   -- as PLP

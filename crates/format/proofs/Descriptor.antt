@@ -7,10 +7,10 @@
 --   again         : write_column c ≡ gives b → read_column (b ++ rest) ≡ took c (length b)
 -- where odd_marker s says that s begins with F1 and a byte that is neither 0 nor 1.
 -- Assumes nothing.
+use Rattle.std.specs.Prelude.{None, Option, Some}
 use mathlib.Core.Path.{◌≡◌, refl, sym, ap, ◌∙◌}
 use mathlib.Core.List.{List, [], ◌∷◌, ◌++◌, append-nil}
 use mathlib.Core.Bool.{Bool, true, false, not}
-use mathlib.Core.Option.{Option, none, some}
 use Prim.Native.Nat.{ℕ, ◌*◌, ◌/◌, ◌%◌, ◌^◌, ◌<◌}
 use native.Mathlib.Omega.{arith}
 use lib.ListN.{length, take, drop}
@@ -102,14 +102,14 @@ zeros : (b : Bool) (p x : ℕ) → b ≡ false → digits_fit b p x ≡ true →
 zeros true p x e h = no_truth (sym e)
 zeros false p x e h = let q = both_true (eqb p 0) (eqb x 0) h in (eqb-true p 0 q.0, eqb-true x 0 q.1)
 
-no_collation : (b : Bool) (l : Option Collation) → b ≡ false → collation_fits b l ≡ true → l ≡ none
-no_collation b none e h = refl
-no_collation true (some c) e h = no_truth (sym e)
-no_collation false (some c) e h = no_truth h
+no_collation : (b : Bool) (l : Option Collation) → b ≡ false → collation_fits b l ≡ true → l ≡ None
+no_collation b None e h = refl
+no_collation true (Some c) e h = no_truth (sym e)
+no_collation false (Some c) e h = no_truth h
 
-no_schema : (t : TypeId) (m : Option Schema) → ((n : Schema) → schema_fits t (some n) ≡ false) → schema_fits t m ≡ true → m ≡ none
-no_schema t none f h = refl
-no_schema t (some n) f h = no_truth (sym (f n) ∙ h)
+no_schema : (t : TypeId) (m : Option Schema) → ((n : Schema) → schema_fits t (Some n) ≡ false) → schema_fits t m ≡ true → m ≡ None
+no_schema t None f h = refl
+no_schema t (Some n) f h = no_truth (sym (f n) ∙ h)
 
 -- a type that is its byte alone
 bare_again : (t : TypeId) (n : ℕ) → column_bytes (plain t n) ≡ type_byte t ∷ [] → ((s : List ℕ) → read_fields t s ≡ took (plain t n) 0) →
@@ -117,67 +117,67 @@ bare_again : (t : TypeId) (n : ℕ) → column_bytes (plain t n) ≡ type_byte t
 bare_again t n e f rest = rw e (typed_again t [] rest (plain t n) (f rest))
 
 digits_again : (t : TypeId) (n p x : ℕ) (rest : List ℕ) → digits_fit (has_digits t) p x ≡ true →
-    read_digits t n (digits_bytes (has_digits t) p x ++ rest) ≡ took (column t n p x none none) (length (digits_bytes (has_digits t) p x))
+    read_digits t n (digits_bytes (has_digits t) p x ++ rest) ≡ took (column t n p x None None) (length (digits_bytes (has_digits t) p x))
 unfolding then_read read_byte
 digits_again t n p x rest h = go (has_digits t) h
   where
     go : (b : Bool) → digits_fit b p x ≡ true →
         pick b (then_read read_byte (read_scale t n) (digits_bytes b p x ++ rest)) (took (plain t n) 0)
-        ≡ took (column t n p x none none) (length (digits_bytes b p x))
+        ≡ took (column t n p x None None) (length (digits_bytes b p x))
     go true q = refl
     go false q = let z = zeros false p x refl q in rw (z.0, z.1)
 
 collation_again : (t : TypeId) (n : ℕ) (l : Option Collation) (rest : List ℕ) → collation_fits (has_collation t) l ≡ true →
-    read_collation t n (collation_bytes l ++ rest) ≡ took (column t n 0 0 l none) (length (collation_bytes l))
+    read_collation t n (collation_bytes l ++ rest) ≡ took (column t n 0 0 l None) (length (collation_bytes l))
 unfolding read_byte
-collation_again t n none rest h = go (has_collation t) h
+collation_again t n None rest h = go (has_collation t) h
   where
-    go : (b : Bool) → collation_fits b none ≡ true → pick b (then_read (read_low 4) (read_sort t n) rest) (took (plain t n) 0) ≡ took (plain t n) 0
+    go : (b : Bool) → collation_fits b None ≡ true → pick b (then_read (read_low 4) (read_sort t n) rest) (took (plain t n) 0) ≡ took (plain t n) 0
     go true q = no_truth q
     go false q = refl
-collation_again t n (some c) rest h = go (has_collation t) h
+collation_again t n (Some c) rest h = go (has_collation t) h
   where
-    go : (b : Bool) → collation_fits b (some c) ≡ true →
+    go : (b : Bool) → collation_fits b (Some c) ≡ true →
         pick b (then_read (read_low 4) (read_sort t n) ((low_bytes 4 c.info ++ (c.sort ∷ [])) ++ rest)) (took (plain t n) 0)
-        ≡ took (column t n 0 0 (some c) none) (length (low_bytes 4 c.info ++ (c.sort ∷ [])))
+        ≡ took (column t n 0 0 (Some c) None) (length (low_bytes 4 c.info ++ (c.sort ∷ [])))
     go true q =
         let i = ltb-true c.info (256 ^ 4) (both_true (ltb c.info (256 ^ 4)) (ltb c.sort 256) q).0 in
-        then_again (read_low 4) (read_sort t n) (low_bytes 4 c.info) (c.sort ∷ []) rest c.info (column t n 0 0 (some c) none)
+        then_again (read_low 4) (read_sort t n) (low_bytes 4 c.info) (c.sort ∷ []) rest c.info (column t n 0 0 (Some c) None)
         (λ more. low_again 4 c.info more i) refl
     go false q = no_truth q
 
 -- a type with a length of w bytes
-module _ (t : TypeId) (w : ℕ) (f : Form t w) (n p x : ℕ) (l : Option Collation) (rest : List ℕ) (k : Kept t n p x l none) where
+module _ (t : TypeId) (w : ℕ) (f : Form t w) (n p x : ℕ) (l : Option Collation) (rest : List ℕ) (k : Kept t n p x l None) where
   form-again :
       read_fields t ((low_bytes w n ++ (digits_bytes (has_digits t) p x ++ collation_bytes l)) ++ rest)
-      ≡ took (column t n p x l none) (length (low_bytes w n ++ (digits_bytes (has_digits t) p x ++ collation_bytes l))) →
-      read_column (column_bytes (column t n p x l none) ++ rest) ≡ took (column t n p x l none) (length (column_bytes (column t n p x l none)))
+      ≡ took (column t n p x l None) (length (low_bytes w n ++ (digits_bytes (has_digits t) p x ++ collation_bytes l))) →
+      read_column (column_bytes (column t n p x l None) ++ rest) ≡ took (column t n p x l None) (length (column_bytes (column t n p x l None)))
   form-again q =
-      rw (form-bytes t w f n p x l) (typed_again t (low_bytes w n ++ (digits_bytes (has_digits t) p x ++ collation_bytes l)) rest (column t n p x l none) q)
+      rw (form-bytes t w f n p x l) (typed_again t (low_bytes w n ++ (digits_bytes (has_digits t) p x ++ collation_bytes l)) rest (column t n p x l None) q)
 
   below : n < 256 ^ w
   below = ltb-true n (256 ^ w) (sym (f.fits n) ∙ k.fits)
 
   wide_again : has_digits t ≡ false → ((s : List ℕ) → read_fields t s ≡ then_read (read_low w) (read_collation t) s) →
-      read_column (column_bytes (column t n p x l none) ++ rest) ≡ took (column t n p x l none) (length (column_bytes (column t n p x l none)))
+      read_column (column_bytes (column t n p x l None) ++ rest) ≡ took (column t n p x l None) (length (column_bytes (column t n p x l None)))
   wide_again e r =
       let z = zeros (has_digits t) p x e k.digits in
       let q =
-      then_again (read_low w) (read_collation t) (low_bytes w n) (collation_bytes l) rest n (column t n 0 0 l none) (λ more. low_again w n more below)
+      then_again (read_low w) (read_collation t) (low_bytes w n) (collation_bytes l) rest n (column t n 0 0 l None) (λ more. low_again w n more below)
       (collation_again t n l rest k.collation) in
       form-again (rw (z.0, z.1, e) (r _ ∙ q))
 
-byte_len_again : (g : ByteLen) (n p x : ℕ) (rest : List ℕ) → Kept (byte_len g) n p x none none →
-    read_column (column_bytes (column (byte_len g) n p x none none) ++ rest)
-    ≡ took (column (byte_len g) n p x none none) (length (column_bytes (column (byte_len g) n p x none none)))
+byte_len_again : (g : ByteLen) (n p x : ℕ) (rest : List ℕ) → Kept (byte_len g) n p x None None →
+    read_column (column_bytes (column (byte_len g) n p x None None) ++ rest)
+    ≡ took (column (byte_len g) n p x None None) (length (column_bytes (column (byte_len g) n p x None None)))
 unfolding read_byte
 byte_len_again g n p x rest k =
     let t = byte_len g in
     let i : n % 256 ≡ n = omega (arith, ltb-true n 256 k.fits) in
     let q =
-    then_again read_byte (read_digits t) (n ∷ []) (digits_bytes (has_digits t) p x) rest n (column t n p x none none) (λ more. refl)
+    then_again read_byte (read_digits t) (n ∷ []) (digits_bytes (has_digits t) p x) rest n (column t n p x None None) (λ more. refl)
     (digits_again t n p x rest k.digits) in
-    form-again t 1 (byte-form g) n p x none rest k (rw (i, append-nil (digits_bytes (has_digits (byte_len g)) p x)) q)
+    form-again t 1 (byte-form g) n p x None rest k (rw (i, append-nil (digits_bytes (has_digits (byte_len g)) p x)) q)
 
 -- names
 name_again : (w : ℕ) (a rest : List ℕ) → name_fits w (inside a) ≡ true → read_name w (name_bytes w (inside a) ++ rest)
@@ -201,9 +201,9 @@ names_again x y z rest h i j =
 abbrev parts : Part → Part → Part → Schema
 parts x y z = record { database = x; owner = y; collection = z }
 
-schema_again : (x y z : Part) (rest : List ℕ) → names_fit (some (parts x y z)) ≡ true →
-    read_column (column_bytes (column xml 0 0 0 none (some (parts x y z))) ++ rest)
-    ≡ took (column xml 0 0 0 none (some (parts x y z))) (length (column_bytes (column xml 0 0 0 none (some (parts x y z)))))
+schema_again : (x y z : Part) (rest : List ℕ) → names_fit (Some (parts x y z)) ≡ true →
+    read_column (column_bytes (column xml 0 0 0 None (Some (parts x y z))) ++ rest)
+    ≡ took (column xml 0 0 0 None (Some (parts x y z))) (length (column_bytes (column xml 0 0 0 None (Some (parts x y z)))))
 unfolding column_bytes read_byte
 schema_again (inside x) (inside y) (inside z) rest h =
     let p = both_true (name_fits 1 (inside x)) (both (name_fits 1 (inside y)) (name_fits 2 (inside z))) h in
@@ -217,10 +217,10 @@ schema_again (inside x) (inside y) outside rest h =
     no_truth (both_true (name_fits 1 (inside y)) false (both_true (name_fits 1 (inside x)) (both (name_fits 1 (inside y)) false) h).1).1
 
 xml_again : (m : Option Schema) (rest : List ℕ) → names_fit m ≡ true →
-    read_column (column_bytes (column xml 0 0 0 none m) ++ rest) ≡ took (column xml 0 0 0 none m) (length (column_bytes (column xml 0 0 0 none m)))
+    read_column (column_bytes (column xml 0 0 0 None m) ++ rest) ≡ took (column xml 0 0 0 None m) (length (column_bytes (column xml 0 0 0 None m)))
 unfolding column_bytes then_read read_byte
-xml_again none rest h = typed_again xml (0 ∷ []) rest (plain xml 0) refl
-xml_again (some s) rest h = schema_again s.database s.owner s.collection rest h
+xml_again None rest h = typed_again xml (0 ∷ []) rest (plain xml 0) refl
+xml_again (Some s) rest h = schema_again s.database s.owner s.collection rest h
 
 column_again : (t : TypeId) (n p x : ℕ) (l : Option Collation) (m : Option Schema) (rest : List ℕ) → Kept t n p x l m → names_fit m ≡ true →
     is_described t ≡ true →

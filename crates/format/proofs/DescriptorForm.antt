@@ -1,9 +1,9 @@
 -- What a descriptor is written as: the type byte both ways, the checks in their order, and one form for every type that has a length of w bytes.
 -- Assumes nothing.
+use Rattle.std.specs.Prelude.{None, Option}
 use mathlib.Core.Path.{◌≡◌, refl, sym, ap, ◌∙◌}
 use mathlib.Core.List.{List, [], ◌∷◌, ◌++◌, append-nil}
 use mathlib.Core.Bool.{Bool, true, false, not}
-use mathlib.Core.Option.{Option, none}
 use Prim.Native.Nat.{ℕ, ◌^◌, ◌<◌}
 use lib.Dec.{ltb, eqb}
 use borrow.Author.Tests.{lt-ltb, eqb-true, not-false}
@@ -108,7 +108,7 @@ pub record Form (t : TypeId) (w : ℕ) : Type 0 where
   pub width : length_width t ≡ w
   pub fits : (n : ℕ) → length_fits t n ≡ ltb n (256 ^ w)
   pub described : is_described t ≡ true
-  pub bare : schema_bytes t none ≡ []
+  pub bare : schema_bytes t None ≡ []
 
 pub byte-form : (f : ByteLen) → Form (byte_len f) 1
 byte-form f = record { width = refl; fits = λ n. refl; described = refl; bare = refl }
@@ -123,11 +123,11 @@ abbrev pub column : TypeId → ℕ → ℕ → ℕ → Option Collation → Opti
 column t n p x l m = record { type = t; length = n; precision = p; scale = x; collation = l; schema = m }
 
 module _ (t : TypeId) (w : ℕ) (f : Form t w) (n p x : ℕ) (l : Option Collation) where
-  pub form-bytes : column_bytes (column t n p x l none) ≡ type_byte t ∷ (low_bytes w n ++ (digits_bytes (has_digits t) p x ++ collation_bytes l))
+  pub form-bytes : column_bytes (column t n p x l None) ≡ type_byte t ∷ (low_bytes w n ++ (digits_bytes (has_digits t) p x ++ collation_bytes l))
   unfolding column_bytes
   form-bytes = rw (f.width, f.bare, append-nil (collation_bytes l))
 
   pub form-written : n < 256 ^ w → digits_fit (has_digits t) p x ≡ true → collation_fits (has_collation t) l ≡ true →
-      write_column (column t n p x l none) ≡ gives (type_byte t ∷ (low_bytes w n ++ (digits_bytes (has_digits t) p x ++ collation_bytes l)))
+      write_column (column t n p x l None) ≡ gives (type_byte t ∷ (low_bytes w n ++ (digits_bytes (has_digits t) p x ++ collation_bytes l)))
   unfolding keeps_rule
-  form-written h d c = writes (column t n p x l none) (rw (f.fits n, lt-ltb n (256 ^ w) h, d, c)) refl f.described ∙ ap gives form-bytes
+  form-written h d c = writes (column t n p x l None) (rw (f.fits n, lt-ltb n (256 ^ w) h, d, c)) refl f.described ∙ ap gives form-bytes

@@ -2,10 +2,10 @@
 -- part's
 -- reader cut off the front is what its writer gives (the laws named cut).
 -- Assumes nothing.
+use Rattle.std.specs.Prelude.{None, Option, Some}
 use mathlib.Core.Path.{◌≡◌, refl, sym, ap, ◌∙◌}
 use mathlib.Core.List.{List, [], ◌∷◌, ◌++◌}
 use mathlib.Core.Bool.{Bool, true, false, not}
-use mathlib.Core.Option.{Option, none, some}
 use Prim.Native.Nat.{ℕ, ◌*◌, ◌/◌, ◌%◌, ◌^◌, ◌<◌}
 use native.Mathlib.Omega.{arith}
 use lib.ListN.{length, take, drop}
@@ -73,7 +73,7 @@ module _ (f : ByteLen) (n : ℕ) (s : List ℕ) (c : Column) (k : ℕ) (h : n < 
       let m : n % 256 ≡ n = omega arith in
       let d : digits_fit (has_digits (byte_len f)) 0 0 ≡ true = rw e in
       let z : byte_len_byte f ∷ (low_bytes 1 n ++ (digits_bytes (has_digits (byte_len f)) 0 0 ++ [])) ≡ byte_len_byte f ∷ n ∷ [] = rw (e, m) in
-      rw (r.0, r.1) (form-written (byte_len f) 1 (byte-form f) n 0 0 none h d refl ∙ ap gives z)
+      rw (r.0, r.1) (form-written (byte_len f) 1 (byte-form f) n 0 0 None h d refl ∙ ap gives z)
 
   two_digits_cut : has_digits (byte_len f) ≡ true → then_read read_byte (read_scale (byte_len f) n) s ≡ took c k →
       write_column c ≡ gives (byte_len_byte f ∷ n ∷ take k s)
@@ -89,7 +89,7 @@ module _ (f : ByteLen) (n : ℕ) (s : List ℕ) (c : Column) (k : ℕ) (h : n < 
       let r : c ≡ with_scale (byte_len f) n p x = sym v.2 in
       let i : take k s ≡ p ∷ x ∷ [] = rw (t.5, u.0, y.0) in
       let z : byte_len_byte f ∷ (low_bytes 1 n ++ (digits_bytes (has_digits (byte_len f)) p x ++ [])) ≡ byte_len_byte f ∷ n ∷ p ∷ x ∷ [] = rw (e, m) in
-      rw (r, i) (form-written (byte_len f) 1 (byte-form f) n p x none h d refl ∙ ap gives z)
+      rw (r, i) (form-written (byte_len f) 1 (byte-form f) n p x None h d refl ∙ ap gives z)
 
   digits_cut : read_digits (byte_len f) n s ≡ took c k → write_column c ≡ gives (byte_len_byte f ∷ n ∷ take k s)
   digits_cut = split (has_digits (byte_len f)) two_digits_cut no_digits_cut
@@ -108,9 +108,9 @@ module _ (t : TypeId) (w : ℕ) (f : Form t w) (none-digits : has_digits t ≡ f
     no_collation_cut e q =
         let r = same_took (plain t n) c 0 k q in
         let d : digits_fit (has_digits t) 0 0 ≡ true = rw none-digits in
-        let l : collation_fits (has_collation t) none ≡ true = rw e in
+        let l : collation_fits (has_collation t) None ≡ true = rw e in
         let z : type_byte t ∷ (low_bytes w n ++ (digits_bytes (has_digits t) 0 0 ++ [])) ≡ type_byte t ∷ (low_bytes w n ++ []) = rw none-digits in
-        rw (r.0, r.1) (form-written t w f n 0 0 none h d l ∙ ap gives z)
+        rw (r.0, r.1) (form-written t w f n 0 0 None h d l ∙ ap gives z)
 
     collation_cut : has_collation t ≡ true → then_read (read_low 4) (read_sort t n) s ≡ took c k → write_column c
         ≡ gives (type_byte t ∷ (low_bytes w n ++ take k s))
@@ -122,8 +122,8 @@ module _ (t : TypeId) (w : ℕ) (f : Form t w) (none-digits : has_digits t ≡ f
         let sort = v.0 in
         let y = byte_cut (drop g.1 s) sort g.2 (bytes_drop g.1 s b) v.1 in
         let d : digits_fit (has_digits t) 0 0 ≡ true = rw none-digits in
-        let o : Option Collation = some (record { info = info; sort = sort }) in
-        let l : collation_fits (has_collation t) (some (record {
+        let o : Option Collation = Some (record { info = info; sort = sort }) in
+        let l : collation_fits (has_collation t) (Some (record {
           info =
               info;
           sort = sort;

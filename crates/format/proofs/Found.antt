@@ -3,10 +3,10 @@
 -- one after another, `read_row-stands` for a row and its room. `found_steady`: more bytes behind the input move nothing.
 -- A short value's content is the bytes behind its length; a PLP value's is what is copied out, and the room holds that behind the columns before it.
 -- Assumes nothing.
+use Rattle.std.specs.Prelude.{None, Option, Some}
 use mathlib.Core.Path.{◌≡◌, refl, ap, sym, ◌∙◌}
 use mathlib.Core.List.{List, [], ◌∷◌, ◌++◌, append_assoc}
 use mathlib.Core.Bool.{Bool, true, false, not}
-use mathlib.Core.Option.{Option, none, some}
 use Prim.Native.Nat.{ℕ, ◌+◌, ◌≤◌}
 use native.Mathlib.Omega.{arith}
 use lib.ListN.{length, take, drop, length-append, length-drop}
@@ -74,30 +74,30 @@ part-middle before c after =
 -- ---- a value's content
 
 abbrev content_as : Value → Option (List ℕ)
-content_as Value.null = none
-content_as (Value.scalar v) = none
-content_as (Value.binary c) = some c
-content_as (Value.string c) = some c
+content_as Value.null = None
+content_as (Value.scalar v) = None
+content_as (Value.binary c) = Some c
+content_as (Value.string c) = Some c
 
-as_content : (k : ContentKind) (c : List ℕ) → content_as (content_value k (some c)) ≡ some c
+as_content : (k : ContentKind) (c : List ℕ) → content_as (content_value k (Some c)) ≡ Some c
 as_content ContentKind.binary c = refl
 as_content ContentKind.string c = refl
 
 -- a value without content has none
-no_content : {P : Type 0} (v w : Value) (c : List ℕ) → w ≡ v → content_as w ≡ none → content_as v ≡ some c → P
+no_content : {P : Type 0} (v w : Value) (c : List ℕ) → w ≡ v → content_as w ≡ None → content_as v ≡ Some c → P
 no_content v w c e n h = let z : ◌≡◌ {A = ℕ} 0 1 = cc (ap content_as e) in absurd (omega arith)
 
 -- short content: the bytes behind the two of the length
-module _ (s : List ℕ) (v : Value) (n : ℕ) (c : List ℕ) (has : content_as v ≡ some c) where
+module _ (s : List ℕ) (v : Value) (n : ℕ) (c : List ℕ) (has : content_as v ≡ Some c) where
   Short : Type 0
   Short = (take (length c) (drop 2 s) ≡ c) × (2 + length c ≤ length s)
 
-  short_bytes_lem : (k : ContentKind) (m j : ℕ) → 2 ≤ length s → map_read (λ x. content_value k (some x)) (read_bytes m (drop 2 s)) ≡ took v j → Short
+  short_bytes_lem : (k : ContentKind) (m j : ℕ) → 2 ≤ length s → map_read (λ x. content_value k (Some x)) (read_bytes m (drop 2 s)) ≡ took v j → Short
   unfolding Short
   short_bytes_lem k m j i h =
-      let p = map-took (λ x. content_value k (some x)) (read_bytes m (drop 2 s)) v j h in
+      let p = map-took (λ x. content_value k (Some x)) (read_bytes m (drop 2 s)) v j h in
       let b = bytes-took m (drop 2 s) p.0 j p.1 in
-      let q : some p.0 ≡ some c = sym (as_content k p.0) ∙ (ap content_as p.2 ∙ has) in
+      let q : Some p.0 ≡ Some c = sym (as_content k p.0) ∙ (ap content_as p.2 ∙ has) in
       let e : p.0 ≡ c = cc in
       let l : m ≡ length c = sym b.2 ∙ ap length e in
       let y = stays_bytes m (drop 2 s) p.0 j p.1 in
@@ -122,10 +122,10 @@ module _ (s : List ℕ) (v : Value) (n : ℕ) (c : List ℕ) (has : content_as v
   of_scalar : (k : Kind) → map_read Value.scalar (read_scalar k s) ≡ took v n → Short
   of_scalar k h = let p = map-took Value.scalar (read_scalar k s) v n h in no_content v (Value.scalar p.0) c p.2 refl has
 
-module _ (v : Value) (c : List ℕ) (has : content_as v ≡ some c) where
+module _ (v : Value) (c : List ℕ) (has : content_as v ≡ Some c) where
   of_width_lem : {P : Type 0} (declared n : ℕ) (k : Option Kind) (s : List ℕ) (j : ℕ) → read_width declared n k s ≡ took v j → P
-  of_width_lem declared n none s j h = no_took sequence v j h
-  of_width_lem declared n (some k) s j h =
+  of_width_lem declared n None s j h = no_took sequence v j h
+  of_width_lem declared n (Some k) s j h =
       let q = past (ltb declared n) long _ v j h in
       let p = map-took Value.scalar (read_scalar k s) v j q.1 in
       no_content v (Value.scalar p.0) c p.2 refl has
@@ -134,14 +134,14 @@ module _ (v : Value) (c : List ℕ) (has : content_as v ≡ some c) where
   of_length_byte ks declared n s j =
       split (eqb n 0) (λ _ e. let q : Value.null ≡ v = cc in no_content v Value.null c q refl has) (λ _ e. of_width_lem declared n (of_width ks n) s j e)
 
-module _ (s : List ℕ) (v : Value) (n : ℕ) (c : List ℕ) (has : content_as v ≡ some c) where
+module _ (s : List ℕ) (v : Value) (n : ℕ) (c : List ℕ) (has : content_as v ≡ Some c) where
   of_family : (declared : ℕ) (f : Option Family) → eqb declared plp_mark ≡ false → read_family declared f s ≡ took v n → Short s v n c has
-  of_family declared none t h = no_took _ v n h
-  of_family declared (some (fixed_width k)) t h = of_scalar s v n c has k h
-  of_family declared (some (length_byte ks)) t h =
+  of_family declared None t h = no_took _ v n h
+  of_family declared (Some (fixed_width k)) t h = of_scalar s v n c has k h
+  of_family declared (Some (length_byte ks)) t h =
       let p = then_took read_byte (read_length_byte ks declared) s v n h in
       of_length_byte v c has ks declared p.0 (drop p.1 s) p.2 p.4
-  of_family declared (some (content k)) t h = behind-length s v n c has k declared (rw t at h)
+  of_family declared (Some (content k)) t h = behind-length s v n c has k declared (rw t at h)
 
   short_content_lem : (d : Column) → is_plp d ≡ false → read_value d s ≡ took v n → Short s v n c has
   unfolding read_value
@@ -151,7 +151,7 @@ module _ (s : List ℕ) (v : Value) (n : ℕ) (c : List ℕ) (has : content_as v
 
 module _ (d : Column) (s : List ℕ) (at : ℕ) (v : Value) (next : ℕ) (h : read_at (read_value d) s at ≡ took v next) where
   -- not PLP: in the input
-  pub input-stands : (c : List ℕ) → content_as v ≡ some c → is_plp d ≡ false → part s (at + 2) (length c) ≡ inside c
+  pub input-stands : (c : List ℕ) → content_as v ≡ Some c → is_plp d ≡ false → part s (at + 2) (length c) ≡ inside c
   unfolding part Short
   input-stands c has t =
       let p = took_at (read_value d) s at v next h in
@@ -162,13 +162,13 @@ module _ (d : Column) (s : List ℕ) (at : ℕ) (v : Value) (next : ℕ) (h : re
       rw (f, e, q.0)
 
   -- the part of the input is handed back
-  pub input_handed : (c : List ℕ) → content_as v ≡ some c → is_plp d ≡ false → handed_back s (at + 2) (length c) ≡ c
+  pub input_handed : (c : List ℕ) → content_as v ≡ Some c → is_plp d ≡ false → handed_back s (at + 2) (length c) ≡ c
   unfolding handed_back
   input_handed c has t = ap part_or_empty (input-stands c has t)
 
   -- in the input, or in a room that holds what was copied before, what this value copies, and anything
   module _ (room before after : List ℕ) (holds : room ≡ before ++ (copied_out d v ++ after)) where
-    either : (c : List ℕ) → content_as v ≡ some c → content_of v ≡ c → (b : Bool) → is_plp d ≡ b
+    either : (c : List ℕ) → content_as v ≡ Some c → content_of v ≡ c → (b : Bool) → is_plp d ≡ b
         → part_at s room (pick b (in_room (length before) (length c)) (in_input (at + 2) (length c))) ≡ inside c
     unfolding copied_out
     either c has is true t =

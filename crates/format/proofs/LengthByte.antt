@@ -3,10 +3,10 @@
 -- since no
 -- two listed kinds have the same width; behind it the scalars' codec reads.
 -- Assumes nothing.
+use Rattle.std.specs.Prelude.{None, Option, Some}
 use mathlib.Core.Path.{◌≡◌, refl, ap, sym, ◌∙◌}
 use mathlib.Core.List.{List, [], ◌∷◌, ◌++◌}
 use mathlib.Core.Bool.{Bool, true, false}
-use mathlib.Core.Option.{Option, none, some}
 use Prim.Native.Nat.{ℕ, ◌+◌, ◌-◌, ◌≤◌}
 use native.Mathlib.Omega.{arith}
 use lib.ListN.{length, get_or, drop}
@@ -48,9 +48,9 @@ same_kind_lem a b h = sym (at_place a) ∙ (ap kind_at (eqb-true (place a) (plac
 -- each of the kinds is the listed kind of its width
 abbrev pub Told : List Kind → List Kind → Type 0
 Told ks [] = Unit {0}
-Told ks (k ∷ more) = (of_width ks (width k) ≡ some k) × Told ks more
+Told ks (k ∷ more) = (of_width ks (width k) ≡ Some k) × Told ks more
 
-told : (ks more : List Kind) (k : Kind) → Told ks more → is_one_of more k ≡ true → of_width ks (width k) ≡ some k
+told : (ks more : List Kind) (k : Kind) → Told ks more → is_one_of more k ≡ true → of_width ks (width k) ≡ Some k
 told ks [] k t h = clash cc
 told ks (a ∷ more) k t h =
     split (same_kind k a) (λ e _. rw (same_kind_lem k a e) t.0) (λ _ e. told ks more k t.1 e) h
@@ -63,7 +63,7 @@ same_place : (a b : Kind) → a ≡ b → same_kind b a ≡ true
 same_place a b e = eq-eqb (place b) (place a) (ap place (sym e))
 
 -- the listed kind of a width has this width, and is listed
-of_width_lem : (ks : List Kind) (n : ℕ) (k : Kind) → of_width ks n ≡ some k → (n ≡ width k) × (is_one_of ks k ≡ true)
+of_width_lem : (ks : List Kind) (n : ℕ) (k : Kind) → of_width ks n ≡ Some k → (n ≡ width k) × (is_one_of ks k ≡ true)
 of_width_lem [] n k h = clash cc
 of_width_lem (a ∷ ks) n k h =
     split (eqb n (width a))
@@ -91,12 +91,12 @@ module _ (n : ℕ) (ks : List Kind) (t : Told ks ks) where
   width_read x rest i l r =
       let k = kind_of x in
       let a : eqb (width k) 0 ≡ false = some-width k in
-      let b : of_width ks (width k) ≡ some k = told ks ks k t i in
+      let b : of_width ks (width k) ≡ Some k = told ks ks k t i in
       let c : ltb n (width k) ≡ false = le-ltb n (width k) l in
       rw (a, b, c, (Scalars.codec k).again x rest (refl, r))
 
   listed_again : (v : Value) (rest : List ℕ) → Listed ks n v →
-      read_family n (some (length_byte ks)) (encode_in n (length_byte ks) v ++ rest) ≡ took v (length (encode_in n (length_byte ks) v))
+      read_family n (Some (length_byte ks)) (encode_in n (length_byte ks) v ++ rest) ≡ took v (length (encode_in n (length_byte ks) v))
   unfolding read_byte
   listed_again v rest null = then_again read_byte (read_length_byte ks n) (0 ∷ []) [] rest 0 Value.null (λ more. refl) refl
   listed_again v rest (scalar x i l r) =
@@ -113,8 +113,8 @@ module _ (n : ℕ) (ks : List Kind) (t : Told ks ks) where
       rw (← p) (null, omega arith)
 
   width-took : (w : ℕ) (o : Option Kind) (s : List ℕ) (v : Value) (m : ℕ) → Bytes s → of_width ks w ≡ o → read_width n w o s ≡ took v m → ListedTook v m
-  width-took w none s v m b e h = no_took sequence v m h
-  width-took w (some k) s v m b e h =
+  width-took w None s v m b e h = no_took sequence v m h
+  width-took w (Some k) s v m b e h =
       let p = past (ltb n w) long (map_read Value.scalar (read_scalar k s)) v m h in
       let q = map-took Value.scalar (read_scalar k s) v m p.1 in
       let x = q.0 in
@@ -124,7 +124,7 @@ module _ (n : ℕ) (ks : List Kind) (t : Told ks ks) where
       let i : width (kind_of x) ≤ n = omega (arith, ltb-false n w p.0, o.0, ap width f.0) in
       rw (← q.2) (scalar x (rw f.0 o.1) i f.1, omega arith)
 
-  listed-took : (s : List ℕ) (v : Value) (m : ℕ) → Bytes s → read_family n (some (length_byte ks)) s ≡ took v m →
+  listed-took : (s : List ℕ) (v : Value) (m : ℕ) → Bytes s → read_family n (Some (length_byte ks)) s ≡ took v m →
       Listed ks n v × (length (encode_in n (length_byte ks) v) ≤ m + 0)
   listed-took s v m b h =
       let p = then_took read_byte (read_length_byte ks n) s v m h in
@@ -137,5 +137,5 @@ module _ (n : ℕ) (ks : List Kind) (t : Told ks ks) where
       let e = p.5 in
       (q.0, omega arith)
 
-  pub listed : Codec (read_family n (some (length_byte ks))) (encode_in n (length_byte ks)) (Listed ks n) 0
+  pub listed : Codec (read_family n (Some (length_byte ks))) (encode_in n (length_byte ks)) (Listed ks n) 0
   listed = record { again = listed_again; fits = λ s v m b h. (listed-took s v m b h).0; short = λ s v m b h. (listed-took s v m b h).1 }

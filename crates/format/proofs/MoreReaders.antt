@@ -3,10 +3,10 @@
 --   normal form's `stream_normal` of StreamNormal.
 -- At a place of the input, and with a room, it holds by `steady_at` and `steady_fitted` of More: steady_value_at, steady_row_at, steady_join.
 -- Assumes nothing.
+use Rattle.std.specs.Prelude.{None, Option, Some}
 use mathlib.Core.Path.{◌≡◌, refl, ap, ◌∙◌}
 use mathlib.Core.List.{List, [], ◌∷◌, ◌++◌}
 use mathlib.Core.Bool.{Bool, true, false, not}
-use mathlib.Core.Option.{Option, none, some}
 use Prim.Native.Nat.{ℕ, zero, suc, ◌+◌, ◌*◌, ◌≤◌, ◌<◌}
 use native.Mathlib.Omega.{arith}
 use lib.ListN.{length, get_or, take, drop, length-append, length-drop, get_or-append}
@@ -120,8 +120,8 @@ unfolding read_scalar
 stream_scalar k = stream_map (scalar_of k) (read_bytes (width k)) (stream_bytes (width k))
 
 stream_width : (declared n : ℕ) (k : Option Kind) → Streams (read_width declared n k)
-stream_width declared n none = stream_stops sequence
-stream_width declared n (some k) =
+stream_width declared n None = stream_stops sequence
+stream_width declared n (Some k) =
     stream_stop (ltb declared n) long (λ s. map_read Value.scalar (read_scalar k s)) (stream_map Value.scalar (read_scalar k) (stream_scalar k))
 
 stream_length_byte : (ks : List Kind) (declared n : ℕ) → Streams (read_length_byte ks declared n)
@@ -133,7 +133,7 @@ stream_short k declared n =
     stream_pick (eqb n short_null) (λ s. took Value.null 0) _ (stream_took Value.null)
     (stream_stop (ltb declared n) long _
     (stream_stop (is_odd (is_text k) n) sequence _
-    (stream_map (λ c. content_value k (some c)) (read_bytes n) (stream_bytes n))))
+    (stream_map (λ c. content_value k (Some c)) (read_bytes n) (stream_bytes n))))
 
 stream_content : (k : ContentKind) (declared : ℕ) → Streams (read_content k declared)
 stream_content k declared =
@@ -142,10 +142,10 @@ stream_content k declared =
     (stream_then (read_low 2) (read_short k declared) (stream_low 2) (stream_short k declared))
 
 stream_family : (declared : ℕ) (f : Option Family) → Streams (read_family declared f)
-stream_family declared none = stream_stops _
-stream_family declared (some (fixed_width k)) = stream_map Value.scalar (read_scalar k) (stream_scalar k)
-stream_family declared (some (length_byte ks)) = stream_then read_byte (read_length_byte ks declared) stream_byte (stream_length_byte ks declared)
-stream_family declared (some (content k)) = stream_content k declared
+stream_family declared None = stream_stops _
+stream_family declared (Some (fixed_width k)) = stream_map Value.scalar (read_scalar k) (stream_scalar k)
+stream_family declared (Some (length_byte ks)) = stream_then read_byte (read_length_byte ks declared) stream_byte (stream_length_byte ks declared)
+stream_family declared (Some (content k)) = stream_content k declared
 
 pub stream_value : (c : Column) → Streams (read_value c)
 unfolding read_value

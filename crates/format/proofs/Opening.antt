@@ -2,10 +2,10 @@
 --   open-head:   a walk opened at a place goes by the eight bytes there, and stands behind them.
 --   plp_content: content that was read is the chunks joined behind eight bytes, by a walk that came to its end.
 -- Assumes nothing.
+use Rattle.std.specs.Prelude.{None, Option, Some}
 use mathlib.Core.Path.{◌≡◌, refl, ap, sym, ◌∙◌}
 use mathlib.Core.List.{List}
 use mathlib.Core.Bool.{Bool, false}
-use mathlib.Core.Option.{Option, none, some}
 use Prim.Native.Nat.{ℕ, ◌+◌, ◌≤◌}
 use native.Mathlib.Nat.{zero-add, add-zero}
 use native.Mathlib.Omega.{arith}
@@ -36,11 +36,11 @@ module _ (text : Bool) (s : List ℕ) (at n next : ℕ) (h : read_at (read_low 8
       let i = next_inside (read_low 8) s at (stays_low 8) n next h in
       at_then (read_low 8) head_of s at (stays_low 8) n next h ∙ (at_inside (head_of n) s next i.1 ∙ ap (further next) e)
 
-  pub open_null : head_of n (drop next s) ≡ took is_null 0 → open_walk text s at ≡ took none next
+  pub open_null : head_of n (drop next s) ≡ took is_null 0 → open_walk text s at ≡ took None next
   unfolding open_walk
-  open_null e = ap (walk_behind text) (head_at_lem (took is_null 0) e) ∙ ap (took none) (add-zero next)
+  open_null e = ap (walk_behind text) (head_at_lem (took is_null 0) e) ∙ ap (took None) (add-zero next)
 
-  pub open_chunked : (total : Option ℕ) → head_of n (drop next s) ≡ took (chunked total) 0 → open_walk text s at ≡ took (some (opened_at total text next)) next
+  pub open_chunked : (total : Option ℕ) → head_of n (drop next s) ≡ took (chunked total) 0 → open_walk text s at ≡ took (Some (opened_at total text next)) next
   unfolding open_walk
   open_chunked total e = ap (walk_behind text) (head_at_lem (took (chunked total) 0) e) ∙ rw (add-zero next)
 
@@ -60,25 +60,25 @@ module _ (text : Bool) (s : List ℕ) where
   front = ap (walk_behind text) (at_front read_plp_head s)
 
   -- what was opened says which eight bytes there are
-  null-behind : (h : Read PlpHead) (n : ℕ) → read_plp_head s ≡ h → walk_behind text h ≡ took none n → read_plp_head s ≡ took is_null 8
+  null-behind : (h : Read PlpHead) (n : ℕ) → read_plp_head s ≡ h → walk_behind text h ≡ took None n → read_plp_head s ≡ took is_null 8
   null-behind (took is_null m) n p e = p ∙ ap (took is_null) (eight s is_null m p).0
-  null-behind (took (chunked total) m) n p e = let z : some (opened_at total text m) ≡ none = cc in absurd_some z
+  null-behind (took (chunked total) m) n p e = let z : Some (opened_at total text m) ≡ None = cc in absurd_some z
     where
-      absurd_some : {P : Type 0} {w : Walk} → some w ≡ none → P
+      absurd_some : {P : Type 0} {w : Walk} → Some w ≡ None → P
       absurd_some h = let z : ◌≡◌ {A = ℕ} 0 1 = cc in absurd (omega arith)
-  null-behind (stops r) n p e = no_took r none n e
+  null-behind (stops r) n p e = no_took r None n e
 
-  walk_behind_lem : (h : Read PlpHead) (w : Walk) (n : ℕ) → read_plp_head s ≡ h → walk_behind text h ≡ took (some w) n
+  walk_behind_lem : (h : Read PlpHead) (w : Walk) (n : ℕ) → read_plp_head s ≡ h → walk_behind text h ≡ took (Some w) n
       → (total : Option ℕ) × (read_plp_head s ≡ took (chunked total) 8) × (opened total text ≡ w)
-  walk_behind_lem (took is_null m) w n p e = let z : ◌≡◌ {A = Option Walk} none (some w) = cc in absurd_none z
+  walk_behind_lem (took is_null m) w n p e = let z : ◌≡◌ {A = Option Walk} None (Some w) = cc in absurd_none z
     where
-      absurd_none : {P : Type 0} {w : Walk} → none ≡ some w → P
+      absurd_none : {P : Type 0} {w : Walk} → None ≡ Some w → P
       absurd_none h = let z : ◌≡◌ {A = ℕ} 0 1 = cc in absurd (omega arith)
   walk_behind_lem (took (chunked total) m) w n p e =
       let i = (eight s (chunked total) m p).0 in
       let q : opened_at total text m ≡ w = cc in
       (total, p ∙ ap (took (chunked total)) i, ap (opened_at total text) (sym i) ∙ q)
-  walk_behind_lem (stops r) w n p e = no_took r (some w) n e
+  walk_behind_lem (stops r) w n p e = no_took r (Some w) n e
 
   stop_behind_lem : (h : Read PlpHead) (r : Refusal) → walk_behind text h ≡ stops r → h ≡ stops r
   stop_behind_lem (took is_null m) r e = let z : ◌≡◌ {A = ℕ} 0 1 = cc in absurd (omega arith)
@@ -86,7 +86,7 @@ module _ (text : Bool) (s : List ℕ) where
   stop_behind_lem (stops d) r e = let q : d ≡ r = cc in ap stops q
 
   -- null; no value; a walk
-  pub plp_null_lem : (n : ℕ) → open_walk text s 0 ≡ took none n → read_plp text s ≡ took none 8
+  pub plp_null_lem : (n : ℕ) → open_walk text s 0 ≡ took None n → read_plp text s ≡ took None 8
   unfolding read_plp
   plp_null_lem n h = ap (read_chunks text s) (null-behind (read_plp_head s) n refl (sym front ∙ h))
 
@@ -94,7 +94,7 @@ module _ (text : Bool) (s : List ℕ) where
   unfolding read_plp
   plp_stops e h = ap (read_chunks text s) (stop_behind_lem (read_plp_head s) e (sym front ∙ h))
 
-  module _ (w : Walk) (n : ℕ) (h : open_walk text s 0 ≡ took (some w) n) where
+  module _ (w : Walk) (n : ℕ) (h : open_walk text s 0 ≡ took (Some w) n) where
     pub plp_walk : (r : Answer Walked) → walk_from (length s + 1) s w 0 ≡ r → read_plp text s ≡ joined_of s w r
     unfolding read_plp
     plp_walk r e =
@@ -121,37 +121,37 @@ pub record Content (text : Bool) (s c : List ℕ) (n : ℕ) : Type 0 where
 
 module _ (text : Bool) (s c : List ℕ) (n : ℕ) where
   of_walk : (total : Option ℕ) → 8 ≤ length s → (r : Answer Walked) → walk_from (length s + 1) s (opened total text) 0 ≡ r
-      → joined_of s (opened total text) r ≡ took (some c) n → Content text s c n
+      → joined_of s (opened total text) r ≡ took (Some c) n → Content text s c n
   of_walk total b (gives x) h e =
       let w = opened total text in
-      let j : some (joined s w) ≡ some c = cc in
+      let j : Some (joined s w) ≡ Some c = cc in
       let k : joined s w ≡ c = cc in
       let q : x.walk.at ≡ n = cc in
       let i : x.walk.at ≤ length s = walk_keeps s (λ (y : Walk). y.at ≤ length s) (λ y z f _. (moved s y z f).high) (length s + 1) w 0 x h b in
       record { total = total; end = x; behind = b; walks = h; joins = k; next = q; inside = omega arith }
-  of_walk total b (refuses r) h e = no_took r (some c) n e
+  of_walk total b (refuses r) h e = no_took r (Some c) n e
 
-  of_head : (h : Read PlpHead) → read_plp_head s ≡ h → read_chunks text s h ≡ took (some c) n → Content text s c n
+  of_head : (h : Read PlpHead) → read_plp_head s ≡ h → read_chunks text s h ≡ took (Some c) n → Content text s c n
   of_head (took is_null m) p e = let z : ◌≡◌ {A = ℕ} 0 1 = cc in absurd (omega arith)
   of_head (took (chunked total) m) p e = of_walk total (eight s (chunked total) m p).1 (walk_from (length s + 1) s (opened total text) 0) refl e
-  of_head (stops r) p e = no_took r (some c) n e
+  of_head (stops r) p e = no_took r (Some c) n e
 
-  pub plp_content : read_plp text s ≡ took (some c) n → Content text s c n
+  pub plp_content : read_plp text s ≡ took (Some c) n → Content text s c n
   unfolding read_plp
   plp_content h = of_head (read_plp_head s) refl h
 
 -- a PLP value ends inside its input
 module _ (text : Bool) (s : List ℕ) (n : ℕ) where
-  no_null : (w : Walk) (r : Answer Walked) → joined_of s w r ≡ took none n → n ≤ length s
+  no_null : (w : Walk) (r : Answer Walked) → joined_of s w r ≡ took None n → n ≤ length s
   no_null w (gives x) q = let z : ◌≡◌ {A = ℕ} 0 1 = cc in absurd (omega arith)
-  no_null w (refuses d) q = no_took d none n q
+  no_null w (refuses d) q = no_took d None n q
 
-  null-inside : (r : Read PlpHead) → read_plp_head s ≡ r → read_chunks text s r ≡ took none n → n ≤ length s
+  null-inside : (r : Read PlpHead) → read_plp_head s ≡ r → read_chunks text s r ≡ took None n → n ≤ length s
   null-inside (took is_null m) p e = let i = eight s is_null m p in let q : m ≡ n = cc in omega arith
   null-inside (took (chunked total) m) p e = no_null (opened total text) (walk_from (length s + 1) s (opened total text) 0) e
-  null-inside (stops d) p e = no_took d none n e
+  null-inside (stops d) p e = no_took d None n e
 
 pub stays_plp : (text : Bool) → Stays (read_plp text)
 unfolding read_plp
-stays_plp text s none n h = null-inside text s n (read_plp_head s) refl h
-stays_plp text s (some c) n h = (plp_content text s c n h).inside
+stays_plp text s None n h = null-inside text s n (read_plp_head s) refl h
+stays_plp text s (Some c) n h = (plp_content text s c n h).inside

@@ -1,10 +1,10 @@
 -- Numbers and choices of document 01 that no round trip would miss, each as a law in the document's own words: who moves one of them in a definition meets
 -- its sentence here. The numbers stand as they stand in the document, not by the definitions' names.
 -- Each holds by computing, or by one test whose outcome is given. Assumes nothing.
+use Rattle.std.specs.Prelude.{Option, Some}
 use mathlib.Core.Path.{◌≡◌, refl}
 use mathlib.Core.List.{List, [], ◌∷◌, ◌++◌, append-nil}
 use mathlib.Core.Bool.{Bool, true, false}
-use mathlib.Core.Option.{Option, some}
 use Prim.Native.Nat.{ℕ, zero, suc, ◌≤◌, ◌<◌}
 use native.Mathlib.Omega.{arith}
 use borrow.Author.Tests.{lt-ltb, le-ltb, le-leb, lt-leb, ltb-false}
@@ -73,19 +73,19 @@ these_statuses = refl
 -- ---- rule 6
 
 -- "A collation (4 bytes low first, then a sort byte)"; "numbers .. must fit their fields": the greatest that fit, and one more of each.
-pub collation_greatest : collation_fits true (some (record { info = 4294967295; sort = 255 })) ≡ true
+pub collation_greatest : collation_fits true (Some (record { info = 4294967295; sort = 255 })) ≡ true
 collation_greatest = refl
 
-pub collation-info-above : collation_fits true (some (record { info = 4294967296; sort = 255 })) ≡ false
+pub collation-info-above : collation_fits true (Some (record { info = 4294967296; sort = 255 })) ≡ false
 collation-info-above = refl
 
-pub collation-sort-above : collation_fits true (some (record { info = 4294967295; sort = 256 })) ≡ false
+pub collation-sort-above : collation_fits true (Some (record { info = 4294967295; sort = 256 })) ≡ false
 collation-sort-above = refl
 
 -- "Numbers it has no field for": of all types Xml alone has a schema.
 abbrev pub with_schema : Schema → List TypeId → List TypeId → List TypeId
 with_schema n [] found = found
-with_schema n (t ∷ ts) found = with_schema n ts (pick (schema_fits t (some n)) (t ∷ found) found)
+with_schema n (t ∷ ts) found = with_schema n ts (pick (schema_fits t (Some n)) (t ∷ found) found)
 
 pub schema_alone : (n : Schema) → with_schema n types [] ≡ (xml ∷ [])
 schema_alone n = refl
@@ -111,7 +111,7 @@ module _ (s : List ℕ) where
   unfolding write_untyped
   binary-8000 h = rw (le-leb (length s) 8000 h)
 
-  pub binary-above : 8000 < length s → length s ≤ 2147483647 → write_untyped (Given.binary (inside s)) ≡ gives (0xA5 ∷ 0xFF ∷ 0xFF ∷ plp_bytes (some s))
+  pub binary-above : 8000 < length s → length s ≤ 2147483647 → write_untyped (Given.binary (inside s)) ≡ gives (0xA5 ∷ 0xFF ∷ 0xFF ∷ plp_bytes (Some s))
   unfolding write_untyped untyped_bound
   binary-above h k = rw (lt-leb (length s) 8000 h, le-ltb 2147483647 (length s) k)
 
@@ -127,7 +127,7 @@ module _ (s : List ℕ) where
     string-4000 h = rw (e, le-leb (length s) 4000 h)
 
     pub string-above : 4000 < length s → length u ≤ 2147483647 →
-        write_untyped (Given.string (inside s)) ≡ gives (0xE7 ∷ 0xFF ∷ 0xFF ∷ 0 ∷ 0 ∷ 0 ∷ 0 ∷ 0 ∷ plp_bytes (some u))
+        write_untyped (Given.string (inside s)) ≡ gives (0xE7 ∷ 0xFF ∷ 0xFF ∷ 0 ∷ 0 ∷ 0 ∷ 0 ∷ 0 ∷ plp_bytes (Some u))
     unfolding write_untyped untyped_bound
     string-above h k = rw (e, lt-leb (length s) 4000 h, le-ltb 2147483647 (length u) k)
 

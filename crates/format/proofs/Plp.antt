@@ -6,10 +6,10 @@
 --          long as the chunks' sum.
 -- Of the bound's value nothing is used but that a chunk's length of four bytes can say it.
 -- Assumes nothing.
+use Rattle.std.specs.Prelude.{None, Option, Some}
 use mathlib.Core.Path.{◌≡◌, refl, ap, sym, ◌∙◌}
 use mathlib.Core.List.{List, [], ◌∷◌, ◌++◌, append_assoc, append-nil}
 use mathlib.Core.Bool.{Bool, true, false}
-use mathlib.Core.Option.{Option, none, some}
 use Prim.Native.Nat.{ℕ, zero, suc, ◌+◌, ◌-◌, ◌^◌, ◌<◌, ◌≤◌}
 use native.Mathlib.Nat.{zero-add, suc-add}
 use native.Mathlib.Numerals.{add-one}
@@ -32,8 +32,8 @@ use Rattle.format.proofs.Chunks.{at_end, behind, Head, last, chunk, walk-ended, 
 
 -- Content within a bound, of an even count where it is text; or null.
 abbrev pub Within : Bool → ℕ → Option (List ℕ) → Type 0
-Within text bound none = Unit {0}
-Within text bound (some c) = (length c ≤ bound) × (is_odd text (length c) ≡ false)
+Within text bound None = Unit {0}
+Within text bound (Some c) = (length c ≤ bound) × (is_odd text (length c) ≡ false)
 
 -- the bound is a length that a chunk's head can say
 pub bound-said : plp_bound < 256 ^ 4
@@ -54,7 +54,7 @@ module _ (s tail : List ℕ) (at n : ℕ) (h : n < 256 ^ 4) (e : drop at s ≡ l
   said-inside = omega (arith, simp length-drop at (ap length e))
 
 -- the walk at the last zero
-module _ (s rest : List ℕ) (a k : ℕ) (w : Walk) (n : w.ended ≡ false) (t : w.total ≡ none) (o : is_odd w.text w.sum ≡ false)
+module _ (s rest : List ℕ) (a k : ℕ) (w : Walk) (n : w.ended ≡ false) (t : w.total ≡ None) (o : is_odd w.text w.sum ≡ false)
     (e : drop w.at s ≡ low_bytes 4 0 ++ rest) where
   zero_head : Head s w (at_end w)
   zero_head = last (omega (arith, said-inside s rest w.at 0 (lit< tt) e)) (said-length s rest w.at 0 (lit< tt) e) (rw t) o
@@ -71,7 +71,7 @@ module _ (s rest : List ℕ) (a k : ℕ) (w : Walk) (n : w.ended ≡ false) (t :
 module _ (text : Bool) (s c rest : List ℕ) (a : ℕ) (p : 0 < length c) (b : length c ≤ plp_bound) (o : is_odd text (length c) ≡ false)
     (e : drop 8 s ≡ low_bytes 4 (length c) ++ (c ++ (low_bytes 4 0 ++ rest))) where
   abbrev start : Walk
-  start = opened none text
+  start = opened None text
 
   abbrev later : Walk
   later = behind start (length c)
@@ -106,39 +106,39 @@ null_head : (rest : List ℕ) → read_plp_head (low_bytes 8 plp_null ++ rest) �
 unfolding read_plp_head
 null_head rest = then_again (read_low 8) head_of (low_bytes 8 plp_null) [] rest plp_null is_null (λ more. low_again 8 plp_null more (lit< tt)) refl
 
-unknown_head : (rest : List ℕ) → read_plp_head (low_bytes 8 plp_unknown ++ rest) ≡ took (chunked none) 8
+unknown_head : (rest : List ℕ) → read_plp_head (low_bytes 8 plp_unknown ++ rest) ≡ took (chunked None) 8
 unfolding read_plp_head
-unknown_head rest = then_again (read_low 8) head_of (low_bytes 8 plp_unknown) [] rest plp_unknown (chunked none)
+unknown_head rest = then_again (read_low 8) head_of (low_bytes 8 plp_unknown) [] rest plp_unknown (chunked None)
     (λ more. low_again 8 plp_unknown more (lit< tt)) refl
 
 -- behind eight bytes that say an unknown length, a walk that ends and what it joins
-plp_joins : (text : Bool) (s c : List ℕ) (x : Walked) → read_plp_head s ≡ took (chunked none) 8 →
-    walk_from (length s + 1) s (opened none text) 0 ≡ gives x → join_from (length s + 1) s (opened none text) ≡ c →
-    read_plp text s ≡ took (some c) x.walk.at
+plp_joins : (text : Bool) (s c : List ℕ) (x : Walked) → read_plp_head s ≡ took (chunked None) 8 →
+    walk_from (length s + 1) s (opened None text) 0 ≡ gives x → join_from (length s + 1) s (opened None text) ≡ c →
+    read_plp text s ≡ took (Some c) x.walk.at
 unfolding read_plp
 plp_joins text s c x h w j = rw (h, w, j)
 
 again : (text : Bool) (o : Option (List ℕ)) (rest : List ℕ) → Within text plp_bound o → read_plp text (plp_bytes o ++ rest) ≡ took o (length (plp_bytes o))
 unfolding read_plp plp_bytes
-again text none rest f = ap (read_chunks text (plp_bytes none ++ rest)) (null_head rest)
-again text (some []) rest f =
-    let s = plp_bytes (some []) ++ rest in
+again text None rest f = ap (read_chunks text (plp_bytes None ++ rest)) (null_head rest)
+again text (Some []) rest f =
+    let s = plp_bytes (Some []) ++ rest in
     let m : length s + 1 ≡ suc (length s) = add-one (length s) in
     let o = f.1 in
-    plp_joins text s [] (record { walk = at_end (opened none text); taken = 1 }) (unknown_head (low_bytes 4 0 ++ rest))
-    (rw m (zero-walk s rest (length s) 0 (opened none text) refl refl o refl))
-    (rw m (zero_join s rest (length s) 0 (opened none text) refl refl o refl))
-again text (some (b ∷ bs)) rest f =
+    plp_joins text s [] (record { walk = at_end (opened None text); taken = 1 }) (unknown_head (low_bytes 4 0 ++ rest))
+    (rw m (zero-walk s rest (length s) 0 (opened None text) refl refl o refl))
+    (rw m (zero_join s rest (length s) 0 (opened None text) refl refl o refl))
+again text (Some (b ∷ bs)) rest f =
     let c = b ∷ bs in
     let z = low_bytes 4 0 in
-    let s = plp_bytes (some c) ++ rest in
+    let s = plp_bytes (Some c) ++ rest in
     let m : length s + 1 ≡ suc (suc (length s - 1)) = omega arith in
     let e : drop 8 s ≡ low_bytes 4 (length c) ++ (c ++ (z ++ rest)) = ap (λ (l : List ℕ). low_bytes 4 (length c) ++ l) (append_assoc c z rest) in
-    let l : 8 + 4 + length c + 4 ≡ length (plp_bytes (some c)) = omega (arith, length-append c z) in
-    plp_joins text s c (record { walk = at_end (behind (opened none text) (length c)); taken = 2 }) (unknown_head (drop 8 s))
+    let l : 8 + 4 + length c + 4 ≡ length (plp_bytes (Some c)) = omega (arith, length-append c z) in
+    plp_joins text s c (record { walk = at_end (behind (opened None text) (length c)); taken = 2 }) (unknown_head (drop 8 s))
     (rw m (one_walk text s c rest (length s - 1) (omega arith) f.0 f.1 e))
     (rw m (one_join text s c rest (length s - 1) (omega arith) f.0 f.1 e))
-    ∙ ap (took (some c)) l
+    ∙ ap (took (Some c)) l
 
 -- ---- what was read
 
@@ -169,14 +169,14 @@ paid text s w x (chunk n i l q b a) p =
 
 -- how a PLP value was read: as null, or as content
 pub data Taken (text : Bool) : Option (List ℕ) → ℕ → Type 0 where
-  null : Taken text none 8
-  content : (c : List ℕ) (n : ℕ) → length c ≤ plp_bound → is_odd text (length c) ≡ false → 8 + (chunk_cost (length c) + 4) ≤ n → Taken text (some c) n
+  null : Taken text None 8
+  content : (c : List ℕ) (n : ℕ) → length c ≤ plp_bound → is_odd text (length c) ≡ false → 8 + (chunk_cost (length c) + 4) ≤ n → Taken text (Some c) n
 
 head_count : (a : ℕ) (s : List ℕ) (h : PlpHead) (n : ℕ) → head_of a s ≡ took h n → n ≡ 0
 head_count a s h n =
     split (eqb a plp_null) (λ _ e. cc)
     (λ _. split (eqb a plp_unknown) (λ _ e. cc)
-    (λ _ e. let p = past (ltb plp_bound a) long (took (chunked (some a)) 0) h n e in cc p.1))
+    (λ _ e. let p = past (ltb plp_bound a) long (took (chunked (Some a)) 0) h n e in cc p.1))
 
 -- the eight bytes took eight
 pub eight : (s : List ℕ) (h : PlpHead) (n : ℕ) → read_plp_head s ≡ took h n → (n ≡ 8) × (8 ≤ length s)
@@ -195,7 +195,7 @@ module _ (text : Bool) (s : List ℕ) (o : Option (List ℕ)) (n : ℕ) where
   chunks_took total i (gives x) h e =
       let w = opened total text in
       let c = join_from (length s + 1) s w in
-      let p : some c ≡ o = cc in
+      let p : Some c ≡ o = cc in
       let q : x.walk.at ≡ n = cc in
       let l : length c ≡ x.walk.sum = omega (arith, join_sums s (length s + 1) w 0 x h) in
       let d : x.walk.ended ≡ true = walk_ends s (length s + 1) w 0 x i (omega arith) h in
@@ -207,7 +207,7 @@ module _ (text : Bool) (s : List ℕ) (o : Option (List ℕ)) (n : ℕ) where
 
   head_took : (h : Read PlpHead) → read_plp_head s ≡ h → read_chunks text s h ≡ took o n → Taken text o n
   head_took (took is_null m) h e =
-      let p : none ≡ o = cc in
+      let p : None ≡ o = cc in
       let q : m ≡ n = cc in
       let t : 8 ≡ n = sym (eight s is_null m h).0 ∙ q in
       rw (← p, ← t) null

@@ -4,10 +4,10 @@
 --   short: written again it is no longer.
 -- It is the codec of the type's family (FixedWidth, LengthByte, Content) behind rule 6. What a family asks of its type is looked up for each carried type.
 -- Assumes nothing.
+use Rattle.std.specs.Prelude.{None, Option, Some}
 use mathlib.Core.Path.{◌≡◌, refl}
 use mathlib.Core.List.{List, ◌++◌}
 use mathlib.Core.Bool.{true, not}
-use mathlib.Core.Option.{Option, none, some}
 use Prim.Native.Nat.{ℕ, ◌+◌, ◌^◌, ◌<◌, ◌≤◌}
 use lib.ListN.{length}
 use borrow.Author.Tests.{ltb-true, not-false}
@@ -26,17 +26,17 @@ use Rattle.format.proofs.DescriptorForm.{both_true}
 
 -- A value that fits a family under a declared length.
 abbrev pub Fits : ℕ → Option Family → Value → Type 0
-Fits n none v = ⊥
-Fits n (some (fixed_width k)) v = Fixed k v
-Fits n (some (length_byte ks)) v = Listed ks n v
-Fits n (some (content k)) v = Held k n v
+Fits n None v = ⊥
+Fits n (Some (fixed_width k)) v = Fixed k v
+Fits n (Some (length_byte ks)) v = Listed ks n v
+Fits n (Some (content k)) v = Held k n v
 
 -- What the laws need to know of a carried type: its listed kinds have a width each of their own, and content has a declared length of two bytes.
 abbrev pub Sound : ℕ → Option Family → Type 0
-Sound n none = Unit {0}
-Sound n (some (fixed_width k)) = Unit {0}
-Sound n (some (length_byte ks)) = Told ks ks
-Sound n (some (content k)) = n < 256 ^ 2
+Sound n None = Unit {0}
+Sound n (Some (fixed_width k)) = Unit {0}
+Sound n (Some (length_byte ks)) = Told ks ks
+Sound n (Some (content k)) = n < 256 ^ 2
 
 sound_fixed : (n : ℕ) (t : FixedLen) → Sound n (fixed_family t)
 sound_fixed n FixedLen.null = tt
@@ -88,10 +88,10 @@ unfolding keeps_rule
 sound_column c h = sound c.length c.type (both_true (length_fits c.type c.length) _ h).0
 
 pub family : (n : ℕ) (f : Option Family) → Sound n f → Codec (read_family n f) (encode_family n f) (Fits n f) 0
-family n none t = record { again = λ v rest f. absurd f; fits = λ s v m b h. no_took not_carried v m h; short = λ s v m b h. no_took not_carried v m h }
-family n (some (fixed_width k)) t = fixed n k
-family n (some (length_byte ks)) t = listed n ks t
-family n (some (content k)) t = held n k t
+family n None t = record { again = λ v rest f. absurd f; fits = λ s v m b h. no_took not_carried v m h; short = λ s v m b h. no_took not_carried v m h }
+family n (Some (fixed_width k)) t = fixed n k
+family n (Some (length_byte ks)) t = listed n ks t
+family n (Some (content k)) t = held n k t
 
 -- By how many bytes a value of a column may grow when it is written again: none.
 abbrev pub growth : Column → ℕ

@@ -10,10 +10,10 @@
 -- content is even
 -- since UTF-16LE has two bytes or four for each character.
 -- Assumes nothing.
+use Rattle.std.specs.Prelude.{None, Option, Some}
 use mathlib.Core.Path.{◌≡◌, refl, ap}
 use mathlib.Core.List.{List, [], ◌∷◌, ◌++◌}
 use mathlib.Core.Bool.{true, false, not}
-use mathlib.Core.Option.{Option, none, some}
 use Prim.Native.Nat.{ℕ}
 use native.Mathlib.Omega.{arith}
 use lib.ListN.{length}
@@ -66,11 +66,11 @@ module _ (n : ℕ) (v : Value) where
   wrote-listed ks (Given.string p) r h e l = no_truth h
 
   wrote-held : (k : ContentKind) (g : Given) → kind_fits (content k) g ≡ true → value_of g ≡ gives v → too_long n (content k) v ≡ false → Held k n v
-  wrote-held k Given.null h e l = let p : Value.null ≡ v = cc in rw (← p) (holds none tt)
+  wrote-held k Given.null h e l = let p : Value.null ≡ v = cc in rw (← p) (holds None tt)
   wrote-held k (Given.scalar x) h e l = no_truth h
   wrote-held ContentKind.binary (Given.binary (inside s)) h e l =
       let p : Value.binary s ≡ v = cc in
-      rw (← p) (holds (some s) (ltb-false (content_bound n) (length s) (rw (← p) at l), refl))
+      rw (← p) (holds (Some s) (ltb-false (content_bound n) (length s) (rw (← p) at l), refl))
   wrote-held ContentKind.binary (Given.binary outside) h e l = no_gives missing v e
   wrote-held ContentKind.string (Given.binary p) h e l = no_truth h
   wrote-held ContentKind.binary (Given.string p) h e l = no_truth h
@@ -80,10 +80,10 @@ module _ (n : ℕ) (v : Value) where
       go : (a : Answer (List ℕ)) → text_in s ≡ a → string_of a ≡ gives v → Held ContentKind.string n v
       go (gives t) f q =
           let p : Value.string t ≡ v = cc in
-          rw (← p) (holds (some t) (ltb-false (content_bound n) (length t) (rw (← p) at l), ap (λ (k : ℕ). not (eqb k 0)) (in_even s t f)))
+          rw (← p) (holds (Some t) (ltb-false (content_bound n) (length t) (rw (← p) at l), ap (λ (k : ℕ). not (eqb k 0)) (in_even s t f)))
       go (refuses r) f q = no_gives r v q
 
-  wrote_family : (f : Family) (g : Given) → Ranged g → kind_fits f g ≡ true → value_of g ≡ gives v → too_long n f v ≡ false → Fits n (some f) v
+  wrote_family : (f : Family) (g : Given) → Ranged g → kind_fits f g ≡ true → value_of g ≡ gives v → too_long n f v ≡ false → Fits n (Some f) v
   wrote_family (fixed_width k) g r h e l = wrote-fixed k g r h e
   wrote_family (length_byte ks) g r h e l = wrote-listed ks g r h e l
   wrote_family (content k) g r h e l = wrote-held k g h e l
@@ -93,7 +93,7 @@ abbrev Wrote : Column → Given → List ℕ → Type 0
 Wrote c g bytes = (v : Value) × (value_of g ≡ gives v) × Fit c v × (encode c v ≡ bytes)
 
 module _ (c : Column) (g : Given) (bytes : List ℕ) (r : Ranged g) where
-  wrote-given : (f : Family) → family_of c.type ≡ some f → keeps_rule c ≡ true → kind_fits f g ≡ true → (a : Answer Value) → value_of g ≡ a →
+  wrote-given : (f : Family) → family_of c.type ≡ Some f → keeps_rule c ≡ true → kind_fits f g ≡ true → (a : Answer Value) → value_of g ≡ a →
       and_then a (bounded c.length f) ≡ gives bytes → Wrote c g bytes
   unfolding encode
   wrote-given f t k i (gives v) e h =
@@ -103,8 +103,8 @@ module _ (c : Column) (g : Given) (bytes : List ℕ) (r : Ranged g) where
   wrote-given f t k i (refuses x) e h = no_gives x bytes h
 
   wrote_in : (f : Option Family) → family_of c.type ≡ f → keeps_rule c ≡ true → write_family c.length f g ≡ gives bytes → Wrote c g bytes
-  wrote_in none t k h = no_gives not_carried bytes h
-  wrote_in (some f) t k h =
+  wrote_in None t k h = no_gives not_carried bytes h
+  wrote_in (Some f) t k h =
       let p = passed (not (kind_fits f g)) kind (and_then (value_of g) (bounded c.length f)) bytes h in
       wrote-given f t k (not-false (kind_fits f g) p.0) (value_of g) refl p.1
 

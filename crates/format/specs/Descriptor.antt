@@ -1,6 +1,5 @@
 -- TYPE_INFO both ways: document 01, "TYPE_INFO"; MS-TDS, "Data Type Definitions" and the rule TYPE_INFO.
-use Rattle.std.specs.Prelude.{ℕ, ◌*◌, ◌/◌, ◌%◌, ◌^◌, List, [], ◌∷◌, ◌++◌, Bool, true, false, not, length, ltb, eqb}
-use Rattle.std.proofs.Math.Option.{Option, none, some}
+use Rattle.std.specs.Prelude.{ℕ, ◌*◌, ◌/◌, ◌%◌, ◌^◌, List, [], ◌∷◌, ◌++◌, Bool, true, false, not, length, ltb, eqb, None, Option, Some}
 use Rattle.lists.specs.Pick.{pick}
 use Rattle.format.specs.Answer.{Answer, gives, refuses, Read, took, stops, unknown, rule, not_carried, refuse_if, then_read, map_read, Part, inside, outside}
 use Rattle.format.specs.Number.{low_bytes, read_byte, read_low, read_bytes}
@@ -156,7 +155,7 @@ pub record Column : Type 0 where
 
 -- A column with a type and a length, and nothing else.
 abbrev pub plain : TypeId → ℕ → Column
-plain t n = record { type = t; length = n; precision = 0; scale = 0; collation = none; schema = none }
+plain t n = record { type = t; length = n; precision = 0; scale = 0; collation = None; schema = None }
 
 -- "Decimaln and Numericn then have precision and scale."
 abbrev pub has_digits : TypeId → Bool
@@ -216,7 +215,7 @@ daten_length = 3
 
 -- The collation behind the length, where the type has one.
 abbrev pub with_sort : TypeId → ℕ → ℕ → ℕ → Column
-with_sort t n info sort = record { type = t; length = n; precision = 0; scale = 0; collation = some (record { info = info; sort = sort }); schema = none }
+with_sort t n info sort = record { type = t; length = n; precision = 0; scale = 0; collation = Some (record { info = info; sort = sort }); schema = None }
 
 abbrev pub read_sort : TypeId → ℕ → ℕ → List ℕ → Read Column
 read_sort t n info s = map_read (with_sort t n info) (read_byte s)
@@ -226,7 +225,7 @@ read_collation t n s = pick (has_collation t) (then_read (read_low 4) (read_sort
 
 -- Precision and scale behind the length, where the type has them.
 abbrev pub with_scale : TypeId → ℕ → ℕ → ℕ → Column
-with_scale t n precision scale = record { type = t; length = n; precision = precision; scale = scale; collation = none; schema = none }
+with_scale t n precision scale = record { type = t; length = n; precision = precision; scale = scale; collation = None; schema = None }
 
 abbrev pub read_scale : TypeId → ℕ → ℕ → List ℕ → Read Column
 read_scale t n precision s = map_read (with_scale t n precision) (read_byte s)
@@ -245,7 +244,7 @@ abbrev pub names_of : List ℕ → List ℕ → List ℕ → Schema
 names_of a b c = record { database = inside a; owner = inside b; collection = inside c }
 
 abbrev pub with_names : List ℕ → List ℕ → List ℕ → Column
-with_names a b c = record { type = xml; length = 0; precision = 0; scale = 0; collation = none; schema = some (names_of a b c) }
+with_names a b c = record { type = xml; length = 0; precision = 0; scale = 0; collation = None; schema = Some (names_of a b c) }
 
 abbrev pub read_third : List ℕ → List ℕ → List ℕ → Read Column
 read_third a b s = map_read (with_names a b) (read_name 2 s)
@@ -304,22 +303,22 @@ digits_fit false precision scale = both (eqb precision 0) (eqb scale 0)
 
 -- "Collation is present exactly where listed."
 abbrev pub collation_fits : Bool → Option Collation → Bool
-collation_fits true (some c) = both (ltb c.info (256 ^ 4)) (ltb c.sort 256)
-collation_fits true none = false
-collation_fits false (some c) = false
-collation_fits false none = true
+collation_fits true (Some c) = both (ltb c.info (256 ^ 4)) (ltb c.sort 256)
+collation_fits true None = false
+collation_fits false (Some c) = false
+collation_fits false None = true
 
 -- A schema is Xml's alone.
 abbrev pub schema_fits : TypeId → Option Schema → Bool
-schema_fits t none = true
-schema_fits (fixed_len t) (some n) = false
-schema_fits (byte_len t) (some n) = false
-schema_fits (u_short_len t) (some n) = false
-schema_fits (long_len t) (some n) = false
-schema_fits daten (some n) = false
-schema_fits xml (some n) = true
-schema_fits udt (some n) = false
-schema_fits ss_variant (some n) = false
+schema_fits t None = true
+schema_fits (fixed_len t) (Some n) = false
+schema_fits (byte_len t) (Some n) = false
+schema_fits (u_short_len t) (Some n) = false
+schema_fits (long_len t) (Some n) = false
+schema_fits daten (Some n) = false
+schema_fits xml (Some n) = true
+schema_fits udt (Some n) = false
+schema_fits ss_variant (Some n) = false
 
 -- What a descriptor to be written or used for a value must keep.
 unfoldable pub keeps_rule : Column → Bool
@@ -335,8 +334,8 @@ name_fits w (inside s) = both (eqb (length s % 2) 0) (ltb (length s / 2) (256 ^ 
 name_fits w outside = false
 
 abbrev pub names_fit : Option Schema → Bool
-names_fit (some n) = both (name_fits 1 n.database) (both (name_fits 1 n.owner) (name_fits 2 n.collection))
-names_fit none = true
+names_fit (Some n) = both (name_fits 1 n.database) (both (name_fits 1 n.owner) (name_fits 2 n.collection))
+names_fit None = true
 
 -- ---- writing
 
@@ -345,8 +344,8 @@ digits_bytes true precision scale = precision ∷ scale ∷ []
 digits_bytes false precision scale = []
 
 abbrev pub collation_bytes : Option Collation → List ℕ
-collation_bytes (some c) = low_bytes 4 c.info ++ (c.sort ∷ [])
-collation_bytes none = []
+collation_bytes (Some c) = low_bytes 4 c.info ++ (c.sort ∷ [])
+collation_bytes None = []
 
 abbrev pub name_bytes : ℕ → Part → List ℕ
 name_bytes w (inside s) = low_bytes w (length s / 2) ++ s
@@ -358,8 +357,8 @@ schema_bytes (byte_len t) n = []
 schema_bytes (u_short_len t) n = []
 schema_bytes (long_len t) n = []
 schema_bytes daten n = []
-schema_bytes xml none = 0 ∷ []
-schema_bytes xml (some n) = schema_marker ∷ (name_bytes 1 n.database ++ (name_bytes 1 n.owner ++ name_bytes 2 n.collection))
+schema_bytes xml None = 0 ∷ []
+schema_bytes xml (Some n) = schema_marker ∷ (name_bytes 1 n.database ++ (name_bytes 1 n.owner ++ name_bytes 2 n.collection))
 schema_bytes udt n = []
 schema_bytes ss_variant n = []
 

@@ -1,7 +1,6 @@
 -- Partially length-prefixed values: the eight bytes, the chunks, the walk. Document 01, "Values under a type", "Walking and joining"; MS-TDS, the rule
 -- PLP_BODY.
-use Rattle.std.specs.Prelude.{ℕ, zero, suc, ◌+◌, ◌-◌, ◌%◌, ◌^◌, List, [], ◌∷◌, ◌++◌, Bool, true, false, not, length, take, drop, ltb, eqb}
-use Rattle.std.proofs.Math.Option.{Option, none, some}
+use Rattle.std.specs.Prelude.{ℕ, zero, suc, ◌+◌, ◌-◌, ◌%◌, ◌^◌, List, [], ◌∷◌, ◌++◌, Bool, true, false, not, length, take, drop, ltb, eqb, None, Option, Some}
 use Rattle.lists.specs.Pick.{pick}
 use Rattle.format.specs.Answer.{Answer, gives, refuses, Read, took, stops, missing, long, sequence, refuse_if, stop_if, then_read}
 use Rattle.format.specs.Answer.{read_at, fitted_read, room_after_read}
@@ -31,8 +30,8 @@ pub data PlpHead : Type 0 where
 abbrev pub head_of : ℕ → List ℕ → Read PlpHead
 head_of n s =
     pick (eqb n plp_null) (took is_null 0)
-    (pick (eqb n plp_unknown) (took (chunked none) 0)
-    (stop_if (ltb plp_bound n) long (took (chunked (some n)) 0)))
+    (pick (eqb n plp_unknown) (took (chunked None) 0)
+    (stop_if (ltb plp_bound n) long (took (chunked (Some n)) 0)))
 
 unfoldable pub read_plp_head : List ℕ → Read PlpHead
 read_plp_head s = then_read (read_low 8) head_of s
@@ -47,12 +46,12 @@ pub record Walk : Type 0 where
   pub ended : Bool
 
 abbrev pub above_total : Option ℕ → ℕ → Bool
-above_total none n = false
-above_total (some t) n = ltb t n
+above_total None n = false
+above_total (Some t) n = ltb t n
 
 abbrev pub unlike_total : Option ℕ → ℕ → Bool
-unlike_total none n = false
-unlike_total (some t) n = not (eqb n t)
+unlike_total None n = false
+unlike_total (Some t) n = not (eqb n t)
 
 -- "String content has an even count."
 abbrev pub is_odd : Bool → ℕ → Bool
@@ -125,8 +124,8 @@ opened total text = opened_at total text 8
 -- Opening a walk: the eight bytes at a place of the input, and the walk behind them. "All FF is null": no chunks follow, so no walk.
 -- "The total's bound is judged with the eight bytes."
 abbrev pub walk_behind : Bool → Read PlpHead → Read (Option Walk)
-walk_behind text (took is_null next) = took none next
-walk_behind text (took (chunked total) next) = took (some (opened_at total text next)) next
+walk_behind text (took is_null next) = took None next
+walk_behind text (took (chunked total) next) = took (Some (opened_at total text next)) next
 walk_behind text (stops e) = stops e
 
 unfoldable pub open_walk : Bool → List ℕ → ℕ → Read (Option Walk)
@@ -151,11 +150,11 @@ stepped allowed o = moved_by o (walk_chunks allowed o.input o.walk)
 
 -- A PLP value: its content, or none for null.
 abbrev pub joined_of : List ℕ → Walk → Answer Walked → Read (Option (List ℕ))
-joined_of s w (gives x) = took (some (joined s w)) x.walk.at
+joined_of s w (gives x) = took (Some (joined s w)) x.walk.at
 joined_of s w (refuses e) = stops e
 
 abbrev pub read_chunks : Bool → List ℕ → Read PlpHead → Read (Option (List ℕ))
-read_chunks text s (took is_null n) = took none n
+read_chunks text s (took is_null n) = took None n
 read_chunks text s (took (chunked total) n) = joined_of s (opened total text) (walk_from (length s + 1) s (opened total text) 0)
 read_chunks text s (stops e) = stops e
 
@@ -164,8 +163,8 @@ read_plp text s = read_chunks text s (read_plp_head s)
 
 -- "PLP content is the chunks joined, copied out": what a PLP value needs of the room.
 abbrev pub plp_copied : Option (List ℕ) → List ℕ
-plp_copied none = []
-plp_copied (some content) = content
+plp_copied None = []
+plp_copied (Some content) = content
 
 -- A PLP value at a place of the input, its chunks joined at the front of a room of so many bytes; and the room afterwards.
 unfoldable pub join_plp : Bool → List ℕ → ℕ → ℕ → Read (Option (List ℕ))
@@ -180,5 +179,5 @@ chunk_bytes [] = []
 chunk_bytes (b ∷ bs) = low_bytes 4 (length (b ∷ bs)) ++ (b ∷ bs)
 
 unfoldable pub plp_bytes : Option (List ℕ) → List ℕ
-plp_bytes none = low_bytes 8 plp_null
-plp_bytes (some content) = low_bytes 8 plp_unknown ++ (chunk_bytes content ++ low_bytes 4 0)
+plp_bytes None = low_bytes 8 plp_null
+plp_bytes (Some content) = low_bytes 8 plp_unknown ++ (chunk_bytes content ++ low_bytes 4 0)

@@ -1,6 +1,5 @@
 -- Column values both ways: document 01, "Values under a type"; MS-TDS, the rule TYPE_VARBYTE.
-use Rattle.std.specs.Prelude.{ℕ, List, [], ◌∷◌, ◌++◌, Bool, true, false, not, length, leb, ltb, eqb}
-use Rattle.std.proofs.Math.Option.{Option, none, some}
+use Rattle.std.specs.Prelude.{ℕ, List, [], ◌∷◌, ◌++◌, Bool, true, false, not, length, leb, ltb, eqb, None, Option, Some}
 use Rattle.lists.specs.Pick.{pick}
 use Rattle.format.specs.Answer.{Answer, gives, refuses, Read, took, stops, missing, kind, long, rule, not_carried, sequence, refuse_if, stop_if}
 use Rattle.format.specs.Answer.{then_read, map_read, and_then, Part, inside, outside}
@@ -42,51 +41,51 @@ pub data Family : Type 0 where
   content : ContentKind → Family
 
 abbrev pub fixed_family : FixedLen → Option Family
-fixed_family FixedLen.null = none
-fixed_family FixedLen.int1 = some (fixed_width Kind.u8)
-fixed_family FixedLen.bit = some (fixed_width Kind.bit)
-fixed_family FixedLen.int2 = some (fixed_width Kind.i16)
-fixed_family FixedLen.int4 = some (fixed_width Kind.i32)
-fixed_family FixedLen.datetime4 = none
-fixed_family FixedLen.float4 = some (fixed_width Kind.f32)
-fixed_family FixedLen.money = none
-fixed_family FixedLen.datetime = none
-fixed_family FixedLen.float8 = some (fixed_width Kind.f64)
-fixed_family FixedLen.money4 = none
-fixed_family FixedLen.int8 = some (fixed_width Kind.i64)
+fixed_family FixedLen.null = None
+fixed_family FixedLen.int1 = Some (fixed_width Kind.u8)
+fixed_family FixedLen.bit = Some (fixed_width Kind.bit)
+fixed_family FixedLen.int2 = Some (fixed_width Kind.i16)
+fixed_family FixedLen.int4 = Some (fixed_width Kind.i32)
+fixed_family FixedLen.datetime4 = None
+fixed_family FixedLen.float4 = Some (fixed_width Kind.f32)
+fixed_family FixedLen.money = None
+fixed_family FixedLen.datetime = None
+fixed_family FixedLen.float8 = Some (fixed_width Kind.f64)
+fixed_family FixedLen.money4 = None
+fixed_family FixedLen.int8 = Some (fixed_width Kind.i64)
 
 -- "Intn, Bitn, Floatn, Guid: .. 1, 2, 4, 8 / 1 / 4, 8 / 16." "Width 1 under Intn is the unsigned one."
 abbrev pub byte_len_family : ByteLen → Option Family
-byte_len_family ByteLen.guid = some (length_byte (Kind.guid ∷ []))
-byte_len_family ByteLen.intn = some (length_byte (Kind.u8 ∷ Kind.i16 ∷ Kind.i32 ∷ Kind.i64 ∷ []))
-byte_len_family ByteLen.bitn = some (length_byte (Kind.bit ∷ []))
-byte_len_family ByteLen.decimaln = none
-byte_len_family ByteLen.numericn = none
-byte_len_family ByteLen.floatn = some (length_byte (Kind.f32 ∷ Kind.f64 ∷ []))
-byte_len_family ByteLen.moneyn = none
-byte_len_family ByteLen.datetimen = none
-byte_len_family ByteLen.timen = none
-byte_len_family ByteLen.datetime2 = none
-byte_len_family ByteLen.datetime_offsetn = none
+byte_len_family ByteLen.guid = Some (length_byte (Kind.guid ∷ []))
+byte_len_family ByteLen.intn = Some (length_byte (Kind.u8 ∷ Kind.i16 ∷ Kind.i32 ∷ Kind.i64 ∷ []))
+byte_len_family ByteLen.bitn = Some (length_byte (Kind.bit ∷ []))
+byte_len_family ByteLen.decimaln = None
+byte_len_family ByteLen.numericn = None
+byte_len_family ByteLen.floatn = Some (length_byte (Kind.f32 ∷ Kind.f64 ∷ []))
+byte_len_family ByteLen.moneyn = None
+byte_len_family ByteLen.datetimen = None
+byte_len_family ByteLen.timen = None
+byte_len_family ByteLen.datetime2 = None
+byte_len_family ByteLen.datetime_offsetn = None
 
 abbrev pub u_short_len_family : UShortLen → Option Family
-u_short_len_family UShortLen.big_var_bin = some (content ContentKind.binary)
-u_short_len_family UShortLen.big_var_char = none
-u_short_len_family UShortLen.big_binary = some (content ContentKind.binary)
-u_short_len_family UShortLen.big_char = none
-u_short_len_family UShortLen.n_varchar = some (content ContentKind.string)
-u_short_len_family UShortLen.n_char = some (content ContentKind.string)
+u_short_len_family UShortLen.big_var_bin = Some (content ContentKind.binary)
+u_short_len_family UShortLen.big_var_char = None
+u_short_len_family UShortLen.big_binary = Some (content ContentKind.binary)
+u_short_len_family UShortLen.big_char = None
+u_short_len_family UShortLen.n_varchar = Some (content ContentKind.string)
+u_short_len_family UShortLen.n_char = Some (content ContentKind.string)
 
 -- The form of a carried type's values; none for "a type that isn't carried (Null 0x1F included)".
 abbrev pub family_of : TypeId → Option Family
 family_of (fixed_len t) = fixed_family t
 family_of (byte_len t) = byte_len_family t
 family_of (u_short_len t) = u_short_len_family t
-family_of (long_len t) = none
-family_of daten = none
-family_of xml = none
-family_of udt = none
-family_of ss_variant = none
+family_of (long_len t) = None
+family_of daten = None
+family_of xml = None
+family_of udt = None
+family_of ss_variant = None
 
 abbrev pub is_text : ContentKind → Bool
 is_text ContentKind.binary = false
@@ -94,9 +93,9 @@ is_text ContentKind.string = true
 
 -- Content of the kind, or null, as a value.
 abbrev pub content_value : ContentKind → Option (List ℕ) → Value
-content_value k none = Value.null
-content_value ContentKind.binary (some c) = Value.binary c
-content_value ContentKind.string (some c) = Value.string c
+content_value k None = Value.null
+content_value ContentKind.binary (Some c) = Value.binary c
+content_value ContentKind.string (Some c) = Value.string c
 
 -- "Content may not exceed the declared length": the bound under a declared length.
 abbrev pub content_bound : ℕ → ℕ
@@ -106,13 +105,13 @@ content_bound declared = pick (eqb declared plp_mark) plp_bound declared
 
 -- The listed kind of a width.
 abbrev pub of_width : List Kind → ℕ → Option Kind
-of_width [] n = none
-of_width (k ∷ ks) n = pick (eqb n (width k)) (some k) (of_width ks n)
+of_width [] n = None
+of_width (k ∷ ks) n = pick (eqb n (width k)) (Some k) (of_width ks n)
 
 -- "Unlisted length byte 8, then above the declared length 5, .. then missing content 1."
 abbrev pub read_width : ℕ → ℕ → Option Kind → List ℕ → Read Value
-read_width declared n none s = stops sequence
-read_width declared n (some k) s = stop_if (ltb declared n) long (map_read Value.scalar (read_scalar k s))
+read_width declared n None s = stops sequence
+read_width declared n (Some k) s = stop_if (ltb declared n) long (map_read Value.scalar (read_scalar k s))
 
 abbrev pub read_length_byte : List Kind → ℕ → ℕ → List ℕ → Read Value
 read_length_byte ks declared n s = pick (eqb n 0) (took Value.null 0) (read_width declared n (of_width ks n) s)
@@ -126,17 +125,17 @@ read_short k declared n s =
     pick (eqb n short_null) (took Value.null 0)
     (stop_if (ltb declared n) long
     (stop_if (is_odd (is_text k) n) sequence
-    (map_read (λ c. content_value k (some c)) (read_bytes n s))))
+    (map_read (λ c. content_value k (Some c)) (read_bytes n s))))
 
 abbrev pub read_content : ContentKind → ℕ → List ℕ → Read Value
 read_content k declared s =
     pick (eqb declared plp_mark) (map_read (content_value k) (read_plp (is_text k) s)) (then_read (read_low 2) (read_short k declared) s)
 
 abbrev pub read_family : ℕ → Option Family → List ℕ → Read Value
-read_family declared none s = stops not_carried
-read_family declared (some (fixed_width k)) s = map_read Value.scalar (read_scalar k s)
-read_family declared (some (length_byte ks)) s = then_read read_byte (read_length_byte ks declared) s
-read_family declared (some (content k)) s = read_content k declared s
+read_family declared None s = stops not_carried
+read_family declared (Some (fixed_width k)) s = map_read Value.scalar (read_scalar k s)
+read_family declared (Some (length_byte ks)) s = then_read read_byte (read_length_byte ks declared) s
+read_family declared (Some (content k)) s = read_content k declared s
 
 -- "Reading checks 6, 7, then the bytes in their order."
 unfoldable pub read_value : Column → List ℕ → Read Value
@@ -162,8 +161,8 @@ abbrev pub short_bytes : List ℕ → List ℕ
 short_bytes s = low_bytes 2 (length s) ++ s
 
 abbrev pub encode_content : ℕ → Option (List ℕ) → List ℕ
-encode_content declared none = pick (eqb declared plp_mark) (plp_bytes none) (low_bytes 2 short_null)
-encode_content declared (some s) = pick (eqb declared plp_mark) (plp_bytes (some s)) (short_bytes s)
+encode_content declared None = pick (eqb declared plp_mark) (plp_bytes None) (low_bytes 2 short_null)
+encode_content declared (Some s) = pick (eqb declared plp_mark) (plp_bytes (Some s)) (short_bytes s)
 
 abbrev pub encode_in : ℕ → Family → Value → List ℕ
 encode_in declared (fixed_width k) Value.null = []
@@ -174,14 +173,14 @@ encode_in declared (length_byte ks) Value.null = 0 ∷ []
 encode_in declared (length_byte ks) (Value.scalar v) = width (kind_of v) ∷ scalar_bytes v
 encode_in declared (length_byte ks) (Value.binary s) = []
 encode_in declared (length_byte ks) (Value.string s) = []
-encode_in declared (content k) Value.null = encode_content declared none
+encode_in declared (content k) Value.null = encode_content declared None
 encode_in declared (content k) (Value.scalar v) = []
-encode_in declared (content k) (Value.binary s) = encode_content declared (some s)
-encode_in declared (content k) (Value.string s) = encode_content declared (some s)
+encode_in declared (content k) (Value.binary s) = encode_content declared (Some s)
+encode_in declared (content k) (Value.string s) = encode_content declared (Some s)
 
 abbrev pub encode_family : ℕ → Option Family → Value → List ℕ
-encode_family declared none v = []
-encode_family declared (some f) v = encode_in declared f v
+encode_family declared None v = []
+encode_family declared (Some f) v = encode_in declared f v
 
 unfoldable pub encode : Column → Value → List ℕ
 encode c v = encode_family c.length (family_of c.type) v
@@ -230,8 +229,8 @@ abbrev pub bounded : ℕ → Family → Value → Answer (List ℕ)
 bounded declared f v = refuse_if (too_long declared f v) long (gives (encode_in declared f v))
 
 abbrev pub write_family : ℕ → Option Family → Given → Answer (List ℕ)
-write_family declared none g = refuses not_carried
-write_family declared (some f) g = refuse_if (not (kind_fits f g)) kind (and_then (value_of g) (bounded declared f))
+write_family declared None g = refuses not_carried
+write_family declared (Some f) g = refuse_if (not (kind_fits f g)) kind (and_then (value_of g) (bounded declared f))
 
 -- "Writing checks in the order 6, 7, 3, 1, 9, 5, 4."
 unfoldable pub write_value : Column → Given → Answer (List ℕ)
@@ -268,7 +267,7 @@ untyped_bound = 2147483647
 abbrev pub untyped_content : Bool → UShortLen → List ℕ → List ℕ → Answer (List ℕ)
 untyped_content true t collation s = gives (u_short_len_byte t ∷ (low_bytes 2 untyped_length ++ (collation ++ short_bytes s)))
 untyped_content false t collation s =
-    refuse_if (ltb untyped_bound (length s)) long (gives (u_short_len_byte t ∷ (low_bytes 2 plp_mark ++ (collation ++ plp_bytes (some s)))))
+    refuse_if (ltb untyped_bound (length s)) long (gives (u_short_len_byte t ∷ (low_bytes 2 plp_mark ++ (collation ++ plp_bytes (Some s)))))
 
 -- "Five zero bytes of collation."
 abbrev pub zero_collation : List ℕ

@@ -1,5 +1,6 @@
 -- No two outcomes satisfy the contract of a public call of this crate: `..Told` has an inverse.
 -- Assumes nothing.
+use Rattle.std.specs.Prelude.{Err, Ok, Result}
 use mathlib.Core.Path.{◌≡◌, refl, ap}
 use mathlib.Core.List.{List}
 use Prim.Native.Nat.{ℕ}
@@ -15,9 +16,9 @@ use Rattle.header.specs.declared.PacketType.TheVariants as P
 use Rattle.header.specs.declared.PacketStatus.{PacketStatus}
 use Rattle.header.specs.declared.PacketStatus.TheVariants as S
 use Rattle.header.specs.declared.Header.{Header}
-use Rattle.header.specs.declared.HeaderRead.{HeaderRead}
-use Rattle.header.specs.declared.HeaderRead.TheVariants as HR
 use Rattle.header.specs.Told.{type_byte, status_byte, header_fields, header_told}
+use Rattle.wire.specs.declared.Cursor.{Cursor}
+use Rattle.wire.specs.declared.Refusal.{Refusal}
 
 abbrev type_back : ℕ → PacketType
 type_back n =
@@ -63,14 +64,15 @@ fields_back f = record { ty = type_back f.type; status = status_back f.status; l
 fields_undoes : Undoes header_fields fields_back
 fields_undoes h = rw (type_undoes h.ty, status_undoes h.status)
 
-abbrev header_back : Read H.Header → HeaderRead
-header_back (took f n) = HR.Header (fields_back f) (record { at = n })
-header_back (stops e) = HR.Refused (refusal_back e)
+abbrev header_back : Read H.Header → Result (Header × Cursor) Refusal
+header_back (took f n) = Ok ((fields_back f), (record { at = n }))
+header_back (stops e) = Err (refusal_back e)
 
 header_undoes : Undoes header_told header_back
-header_undoes (HR.Header h c) = ap (λ (x : Header). HR.Header x c) (fields_undoes h)
-header_undoes (HR.Refused e) = ap HR.Refused (refusal_undoes e)
+header_undoes (Ok (h, c)) = ap (λ (x : Header). Ok (x, c)) (fields_undoes h)
+header_undoes (Err e) = ap Err (refusal_undoes e)
 
 -- `header::read_header`
-pub read_header_decided : (s : List ℕ) (at : ℕ) (x y : HeaderRead) → header_told x ≡ read_at read_header s at → header_told y ≡ read_at read_header s at → x ≡ y
+pub read_header_decided : (s : List ℕ) (at : ℕ) (x y : Result (Header × Cursor) Refusal) → header_told x ≡ read_at read_header s at →
+    header_told y ≡ read_at read_header s at → x ≡ y
 read_header_decided s at x y p q = decided header_told header_back header_undoes x y (read_at read_header s at) p q

@@ -8,7 +8,7 @@ use lib.ListN.{length, get_or}
 use borrow.Author.Tests.{lt-ltb, le-ltb}
 use Rattle.lists.proofs.Split.{clash}
 use Rattle.lists.specs.Pick.{pick}
-use Rattle.format.specs.Answer.{gives, refuses, took, stops, missing, unknown}
+use Rattle.format.specs.Answer.{Refusal, gives, refuses, took, stops, missing, unknown}
 use Rattle.format.specs.Header.{listed, packet_types, packet_statuses, header_of, read_header}
 use Rattle.header.specs.Told.{known}
 
@@ -21,13 +21,14 @@ pub known-gives : (list : List ℕ) (m n : ℕ) → gives m ≡ known list n →
 unfolding known
 known-gives list m n h = by_list (listed list n) m n h
 
-not_in_list : (b : Bool) (n : ℕ) → refuses unknown ≡ pick b (gives n) (refuses unknown) → b ≡ false
-not_in_list true n h = clash cc
-not_in_list false n h = refl
+not_in_list : (b : Bool) (n : ℕ) (e : Refusal) → refuses e ≡ pick b (gives n) (refuses unknown) → (b ≡ false) × (e ≡ unknown)
+not_in_list true n e h = clash cc
+not_in_list false n e h = (refl, cc)
 
-pub known-refuses : (list : List ℕ) (n : ℕ) → refuses unknown ≡ known list n → listed list n ≡ false
+-- and where it is not, the refusal is 2
+pub known-refused : (list : List ℕ) (n : ℕ) (e : Refusal) → refuses e ≡ known list n → (listed list n ≡ false) × (e ≡ unknown)
 unfolding known
-known-refuses list n h = not_in_list (listed list n) n h
+known-refused list n e h = not_in_list (listed list n) n e h
 
 module _ (s : List ℕ) where
   pub header-short : length s < 8 → read_header s ≡ stops missing

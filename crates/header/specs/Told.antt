@@ -1,4 +1,5 @@
 -- What this crate's declared types tell, in the words of `format`.
+use Rattle.std.specs.Prelude.{Err, Ok, Result}
 use Rattle.std.specs.Prelude.{ℕ, List}
 use Rattle.lists.specs.Pick.{pick}
 use Rattle.format.specs.Answer.{Answer, gives, refuses, Read, took, stops, unknown}
@@ -9,13 +10,9 @@ use Rattle.header.specs.declared.PacketType.{PacketType}
 use Rattle.header.specs.declared.PacketType.TheVariants as P
 use Rattle.header.specs.declared.PacketStatus.{PacketStatus}
 use Rattle.header.specs.declared.PacketStatus.TheVariants as S
-use Rattle.header.specs.declared.TypeRead.{TypeRead}
-use Rattle.header.specs.declared.TypeRead.TheVariants as TR
-use Rattle.header.specs.declared.StatusRead.{StatusRead}
-use Rattle.header.specs.declared.StatusRead.TheVariants as SR
 use Rattle.header.specs.declared.Header.{Header}
-use Rattle.header.specs.declared.HeaderRead.{HeaderRead}
-use Rattle.header.specs.declared.HeaderRead.TheVariants as HR
+use Rattle.wire.specs.declared.Refusal.{Refusal}
+use Rattle.wire.specs.declared.Cursor.{Cursor}
 
 -- document 01's number for each type and each status
 abbrev pub type_byte : PacketType → ℕ
@@ -42,13 +39,13 @@ status_byte S.ResetConnectionSkipTran = 16
 unfoldable pub known : List ℕ → ℕ → Answer ℕ
 known list n = pick (listed list n) (gives n) (refuses unknown)
 
-abbrev pub type_told : TypeRead → Answer ℕ
-type_told (TR.Type t) = gives (type_byte t)
-type_told TR.Unknown = refuses unknown
+abbrev pub type_told : Result PacketType Refusal → Answer ℕ
+type_told (Ok t) = gives (type_byte t)
+type_told (Err e) = refuses (refusal_told e)
 
-abbrev pub status_told : StatusRead → Answer ℕ
-status_told (SR.Status t) = gives (status_byte t)
-status_told SR.Unknown = refuses unknown
+abbrev pub status_told : Result PacketStatus Refusal → Answer ℕ
+status_told (Ok t) = gives (status_byte t)
+status_told (Err e) = refuses (refusal_told e)
 
 -- the six fields
 abbrev pub header_fields : Header → H.Header
@@ -61,6 +58,6 @@ header_fields h = record {
   window = h.window;
 }
 
-abbrev pub header_told : HeaderRead → Read H.Header
-header_told (HR.Header h c) = took (header_fields h) c.at
-header_told (HR.Refused e) = stops (refusal_told e)
+abbrev pub header_told : Result (Header × Cursor) Refusal → Read H.Header
+header_told (Ok (h, c)) = took (header_fields h) c.at
+header_told (Err e) = stops (refusal_told e)

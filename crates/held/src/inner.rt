@@ -2,12 +2,12 @@
 // array, for the time of one call.
 ghost use Rattle.std.specs.Prelude.{◌≡◌, ◌≤◌, length};
 ghost use Rattle.format.specs.Answer.{fitted, wrote, room_after};
-ghost use Rattle.wire.specs.Told.{wrote_told};
+ghost use Rattle.wire.specs.Told.{answer_told};
 ghost use Rattle.held.specs.Held.{too_many, first_row};
 
 use column_type::Column;
 use value_kind::Value;
-use wire::Wrote;
+use wire::Refusal;
 
 // Whether a count is above the places of an array.
 pub fn too_many(count: usize) -> bool
@@ -26,9 +26,9 @@ pub fn size_lent(
     values: [Value; 1024],
     given: usize,
     buffer: &[u8],
-) -> Wrote
+) -> Result<usize, Refusal>
     requires { (count ≤ 1024) × (given ≤ 1024) }
-    ensures { wrote_told result ≡ wrote (first_row buffer.now cols count values given) }
+    ensures { answer_told result ≡ wrote (first_row buffer.now cols count values given) }
 {
     row_size::row_size(&cols[..count], &values[..given], buffer)
 }
@@ -41,9 +41,9 @@ pub fn write_lent(
     given: usize,
     buffer: &[u8],
     out: &mut [u8],
-) -> Wrote
+) -> Result<usize, Refusal>
     requires { (count ≤ 1024) × (given ≤ 1024) }
-    ensures answer { wrote_told result ≡ wrote (fitted (first_row buffer.now cols count values given) (length out.old)) }
+    ensures answer { answer_told result ≡ wrote (fitted (first_row buffer.now cols count values given) (length out.old)) }
     ensures room { out.new ≡ room_after (fitted (first_row buffer.now cols count values given) (length out.old)) out.old }
 {
     row_write::write_row(&cols[..count], &values[..given], buffer, out)

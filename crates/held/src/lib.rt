@@ -6,12 +6,12 @@
 
 ghost use Rattle.std.specs.Prelude.{◌≡◌, length};
 ghost use Rattle.format.specs.Answer.{fitted, wrote, room_after};
-ghost use Rattle.wire.specs.Told.{wrote_told};
+ghost use Rattle.wire.specs.Told.{answer_told};
 ghost use Rattle.held.specs.Held.{write_held};
 
 use column_type::Column;
 use value_kind::Value;
-use wire::{Refusal, Wrote};
+use wire::Refusal;
 
 pub mod inner;
 
@@ -22,14 +22,14 @@ pub fn held_row_size(
     values: [Value; 1024],
     given: usize,
     buffer: &[u8],
-) -> Wrote
-    ensures { wrote_told result ≡ wrote (write_held buffer.now cols count values given) }
+) -> Result<usize, Refusal>
+    ensures { answer_told result ≡ wrote (write_held buffer.now cols count values given) }
 {
     if inner::too_many(count) {
-        return Wrote::Refused(Refusal::Rule);
+        return Err(Refusal::Rule);
     }
     if inner::too_many(given) {
-        return Wrote::Refused(Refusal::Rule);
+        return Err(Refusal::Rule);
     }
     inner::size_lent(cols, count, values, given, buffer)
 }
@@ -42,15 +42,15 @@ pub fn write_held_row(
     given: usize,
     buffer: &[u8],
     out: &mut [u8],
-) -> Wrote
-    ensures answer { wrote_told result ≡ wrote (fitted (write_held buffer.now cols count values given) (length out.old)) }
+) -> Result<usize, Refusal>
+    ensures answer { answer_told result ≡ wrote (fitted (write_held buffer.now cols count values given) (length out.old)) }
     ensures room { out.new ≡ room_after (fitted (write_held buffer.now cols count values given) (length out.old)) out.old }
 {
     if inner::too_many(count) {
-        return Wrote::Refused(Refusal::Rule);
+        return Err(Refusal::Rule);
     }
     if inner::too_many(given) {
-        return Wrote::Refused(Refusal::Rule);
+        return Err(Refusal::Rule);
     }
     inner::write_lent(cols, count, values, given, buffer, out)
 }

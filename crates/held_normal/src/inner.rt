@@ -8,7 +8,7 @@ ghost use Rattle.held_read.specs.Held.{first_columns};
 
 use column_type::Column;
 use cursor::Cursor;
-use normal_step::Normal;
+use wire::Refusal;
 
 // `row_normal::normal_row` of the first columns.
 pub fn normal_lent(
@@ -17,7 +17,7 @@ pub fn normal_lent(
     s: &[u8],
     cursor: Cursor,
     out: &mut [u8],
-) -> Normal
+) -> Result<(usize, Cursor), Refusal>
     requires { count ≤ 1024 }
     ensures answer { (b : List ℕ) → normal_told result ≡ map_read length (fitted_read (λ (bytes : List ℕ). bytes) (read_at (normal (first_columns b cols count)) s.now cursor.at) (length out.old)) }
     ensures room { (b : List ℕ) → out.new ≡ room_after_read (λ (bytes : List ℕ). bytes) (fitted_read (λ (bytes : List ℕ). bytes) (read_at (normal (first_columns b cols count)) s.now cursor.at) (length out.old)) out.old }

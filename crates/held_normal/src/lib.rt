@@ -11,7 +11,7 @@ ghost use Rattle.held_read.specs.Held.{first_columns, counted_read};
 
 use column_type::Column;
 use cursor::Cursor;
-use normal_step::Normal;
+use wire::Refusal;
 
 mod inner;
 
@@ -22,7 +22,7 @@ pub fn normal_held_row(
     s: &[u8],
     cursor: Cursor,
     out: &mut [u8],
-) -> Normal
+) -> Result<(usize, Cursor), Refusal>
     ensures answer { (b : List ℕ) → normal_told result ≡ map_read length (fitted_read (λ (bytes : List ℕ). bytes) (read_at (counted_read count (normal (first_columns b cols count))) s.now cursor.at) (length out.old)) }
     ensures room { (b : List ℕ) → out.new ≡ room_after_read (λ (bytes : List ℕ). bytes) (fitted_read (λ (bytes : List ℕ). bytes) (read_at (counted_read count (normal (first_columns b cols count))) s.now cursor.at) (length out.old)) out.old }
 {

@@ -9,11 +9,17 @@ ghost use Rattle.held_read.specs.Held.{first_columns};
 
 use column_type::Column;
 use cursor::Cursor;
-use judge_step::RowJudged;
-use read_step::RowRead;
+use judge_step::RowNeeds;
+use row_place::RowPlace;
+use wire::Refusal;
 
 // `row_judge::judge_row` of the first columns.
-pub fn judge_lent(cols: [Column; 1024], count: usize, s: &[u8], cursor: Cursor) -> RowJudged
+pub fn judge_lent(
+    cols: [Column; 1024],
+    count: usize,
+    s: &[u8],
+    cursor: Cursor,
+) -> Result<RowNeeds, Refusal>
     requires { count ≤ 1024 }
     ensures { (b : List ℕ) → row_judged_told result ≡ map_read (needs_of (first_columns b cols count)) (read_at (read_row (first_columns b cols count)) s.now cursor.at) }
 {
@@ -27,7 +33,7 @@ pub fn read_lent(
     s: &[u8],
     cursor: Cursor,
     out: &mut [u8],
-) -> RowRead
+) -> Result<(RowPlace, Cursor), Refusal>
     requires { count ≤ 1024 }
     ensures told { (b : List ℕ) → row_read_told result ≡ map_read (λ vs. first_place cursor.at) (fitted_read (copied_out_row (first_columns b cols count)) (read_at (read_row (first_columns b cols count)) s.now cursor.at) (length out.old)) }
     ensures room { (b : List ℕ) → out.new ≡ room_after_read (copied_out_row (first_columns b cols count)) (fitted_read (copied_out_row (first_columns b cols count)) (read_at (read_row (first_columns b cols count)) s.now cursor.at) (length out.old)) out.old }

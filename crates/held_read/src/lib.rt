@@ -12,13 +12,19 @@ ghost use Rattle.held_read.specs.Held.{first_columns, counted_read};
 
 use column_type::Column;
 use cursor::Cursor;
-use judge_step::RowJudged;
-use read_step::RowRead;
+use judge_step::RowNeeds;
+use row_place::RowPlace;
+use wire::Refusal;
 
 mod inner;
 
 // What the row at the cursor needs, or why it cannot be read.
-pub fn judge_held_row(cols: [Column; 1024], count: usize, s: &[u8], cursor: Cursor) -> RowJudged
+pub fn judge_held_row(
+    cols: [Column; 1024],
+    count: usize,
+    s: &[u8],
+    cursor: Cursor,
+) -> Result<RowNeeds, Refusal>
     ensures { (b : List ℕ) → row_judged_told result ≡ map_read (needs_of (first_columns b cols count)) (read_at (counted_read count (read_row (first_columns b cols count))) s.now cursor.at) }
 {
     if held::inner::too_many(count) {
@@ -35,7 +41,7 @@ pub fn read_held_row(
     s: &[u8],
     cursor: Cursor,
     out: &mut [u8],
-) -> RowRead
+) -> Result<(RowPlace, Cursor), Refusal>
     ensures told { (b : List ℕ) → row_read_told result ≡ map_read (λ vs. first_place cursor.at) (fitted_read (copied_out_row (first_columns b cols count)) (read_at (counted_read count (read_row (first_columns b cols count))) s.now cursor.at) (length out.old)) }
     ensures room { (b : List ℕ) → out.new ≡ room_after_read (copied_out_row (first_columns b cols count)) (fitted_read (copied_out_row (first_columns b cols count)) (read_at (counted_read count (read_row (first_columns b cols count))) s.now cursor.at) (length out.old)) out.old }
 {

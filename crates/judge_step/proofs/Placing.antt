@@ -1,10 +1,10 @@
 -- One column's turn in judging: rule 6, then what the rest begins with under the column's family and declared length.
 -- Why it holds: reading at a place inside is reading the rest from there, and a column that keeps the rule is read by its family.
 -- Assumes nothing.
+use Rattle.std.specs.Prelude.{Option}
 use mathlib.Core.Path.{◌≡◌, refl, sym, ap, ◌∙◌}
 use mathlib.Core.Bool.{true, false}
 use mathlib.Core.List.{List}
-use mathlib.Core.Option.{Option}
 use Prim.Native.Nat.{ℕ, ◌+◌, ◌≤◌}
 use native.Mathlib.Omega.{arith}
 use lib.ListN.{length, drop, length-drop}

@@ -15,10 +15,3 @@ pub struct RowNeeds {
     pub joined: usize,
     pub normal: usize,
 }
-
-// A row that can be read, or why there is none.
-#[derive(Clone, Copy)]
-pub enum RowJudged {
-    Row(RowNeeds),
-    Refused(Refusal),
-}

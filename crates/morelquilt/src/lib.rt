@@ -6,13 +6,11 @@
 
 // The cursor: a place in the input, whose methods read a byte, a number, a GUID, a packet header, a
 // column's descriptor, its value or a PLP walk, and hand back the next cursor.
-pub use cursor::{
-    ByteRead, ColumnRead, Cursor, GuidRead, HeaderRead, Joined, NumberRead, ValueRead, WalkOpened,
-};
+pub use cursor::{Cursor, Opened};
 
 // What every call answers with.
 pub use guid::write_guid;
-pub use wire::{Guid, Refusal, Width, Wrote};
+pub use wire::{Guid, Refusal, Width};
 
 // The packet header.
 pub use header::{Header, PacketStatus, PacketType, write_header};
@@ -41,19 +39,17 @@ pub use value_found::{Found, Stand};
 pub use value_part::handed_back;
 
 // PLP values: the chunk walk, and the walk object that keeps the lent input.
-pub use plp::{Total, Walk, Walked, walk_chunks};
+pub use plp::{Walk, walk_chunks};
 pub use plp_walk::{
-    Said, Standing, WalkObject, at_rest, step_walk, walk_object, walk_on, walk_place, walk_standing,
+    Standing, WalkObject, at_rest, step_walk, walk_object, walk_on, walk_place, walk_standing,
 };
 
 // A row under a lent list of columns: judged, read, normalised, sized, written. `RowPlace::value`
 // takes the values of a row that was read, one after another.
-pub use judge_step::{RowJudged, RowNeeds};
-pub use normal_step::Normal;
-pub use read_step::RowRead;
+pub use judge_step::RowNeeds;
 pub use row_judge::judge_row;
 pub use row_normal::normal_row;
-pub use row_place::{RowPlace, RowValue};
+pub use row_place::RowPlace;
 pub use row_read::read_row;
 pub use row_size::row_size;
 pub use row_write::write_row;

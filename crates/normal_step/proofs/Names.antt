@@ -1,6 +1,7 @@
 -- Reading a value does not look at the names of an XML column's descriptor: the columns' names may be parts of any buffer.
 -- Why it holds: rule 6 asks of a schema only whether it is there, and a value's bytes go by the column's type and length.
 -- Assumes nothing.
+use Rattle.std.specs.Prelude.{None, Option, Some}
 use mathlib.Core.Path.{◌≡◌, refl, sym, ap, ◌∙◌}
 use mathlib.Core.Bool.{Bool, not}
 use mathlib.Core.List.{List, [], ◌∷◌}
@@ -16,21 +17,20 @@ use Rattle.format.specs.Row.{max_columns, cons_read, read_values, read_row}
 use Rattle.format.specs.Normal.{encode_row, normal}
 use Rattle.column_type.specs.declared.Column.{Column}
 use Rattle.column_type.specs.declared.Schema.{Schema}
-use Rattle.column_type.specs.declared.Schema.TheVariants as S
 use Rattle.column_type.specs.Told.{type_told, schema_told, column_told}
 use Rattle.columns.specs.Told.{columns_told}
 
 module _ (b : List ℕ) where
-  same_schema : (t : D.TypeId) (n : Schema) → schema_fits t (schema_told b n) ≡ schema_fits t (schema_told [] n)
-  same_schema t S.None = refl
-  same_schema (D.fixed_len t) (S.Names x y z) = refl
-  same_schema (D.byte_len t) (S.Names x y z) = refl
-  same_schema (D.u_short_len t) (S.Names x y z) = refl
-  same_schema (D.long_len t) (S.Names x y z) = refl
-  same_schema D.daten (S.Names x y z) = refl
-  same_schema D.xml (S.Names x y z) = refl
-  same_schema D.udt (S.Names x y z) = refl
-  same_schema D.ss_variant (S.Names x y z) = refl
+  same_schema : (t : D.TypeId) (n : Option Schema) → schema_fits t (schema_told b n) ≡ schema_fits t (schema_told [] n)
+  same_schema t None = refl
+  same_schema (D.fixed_len t) (Some n) = refl
+  same_schema (D.byte_len t) (Some n) = refl
+  same_schema (D.u_short_len t) (Some n) = refl
+  same_schema (D.long_len t) (Some n) = refl
+  same_schema D.daten (Some n) = refl
+  same_schema D.xml (Some n) = refl
+  same_schema D.udt (Some n) = refl
+  same_schema D.ss_variant (Some n) = refl
 
   same_rule : (c : Column) → keeps_rule (column_told b c) ≡ keeps_rule (column_told [] c)
   unfolding keeps_rule

@@ -1,11 +1,10 @@
 -- One column's turn: a value that was read under a column was read under the column's family and declared length.
 -- Assumes nothing.
+use Rattle.std.specs.Prelude.{Option}
 use mathlib.Core.Path.{◌≡◌, refl}
 use mathlib.Core.Bool.{Bool, true, false}
 use mathlib.Core.List.{List}
-use mathlib.Core.Option.{Option}
 use Prim.Native.Nat.{ℕ, ◌<◌, ◌^◌}
-use lib.ListN.{length}
 use Rattle.format.specs.Descriptor as D
 use Rattle.format.specs.Descriptor.{keeps_rule}
 use Rattle.format.specs.Value.{Family, family_of, read_value, encode}

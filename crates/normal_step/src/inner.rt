@@ -6,51 +6,46 @@ ghost use Rattle.value_normal.specs.Runs.{RunFits, RunGrows};
 ghost use Rattle.normal_step.specs.Told.{normal_told};
 ghost use Rattle.normal_step.specs.Steps.{fit_normal, turns_of, open_of, normal_value};
 
-use crate::Normal;
 use column_type::Column;
 use cursor::Cursor;
-use judge_step::RowJudged;
+use judge_step::RowNeeds;
 use value_kind::family;
 use value_normal::Run;
 use wire::Refusal;
 
 // Is there room for the normal form of a row that was judged?
-pub fn fit_in(judged: RowJudged, room: usize) -> Normal
+pub fn fit_in(judged: Result<RowNeeds, Refusal>, room: usize) -> Result<(usize, Cursor), Refusal>
     ensures { normal_told result ≡ fit_normal (row_judged_told judged) room }
 {
-    match judged {
-        RowJudged::Row(needs) => {
-            if room < needs.normal {
-                return Normal::Refused(Refusal::Room);
-            }
-            let next = needs.next;
-            Normal::Bytes(needs.normal, next)
-        }
-        RowJudged::Refused(earlier) => Normal::Refused(earlier),
+    let needs = judged?;
+    if room < needs.normal {
+        return Err(Refusal::Room);
     }
+    let next = needs.next;
+    Ok((needs.normal, next))
 }
 
 // How many turns the pass has: none where the row was refused.
-pub fn turns(fits: Normal, columns: usize) -> usize
+pub fn turns(fits: Result<(usize, Cursor), Refusal>, columns: usize) -> usize
     ensures { result ≡ turns_of (normal_told fits) columns }
 {
     match fits {
-        Normal::Bytes(_, _) => columns,
-        Normal::Refused(_) => 0,
+        Ok((_, _)) => columns,
+        Err(_) => 0,
     }
 }
 
 // The first run starts at the row's first byte; where the row was refused it holds nothing.
-pub fn open_run(fits: Normal, cursor: Cursor) -> Run
+pub fn open_run(fits: Result<(usize, Cursor), Refusal>, cursor: Cursor) -> Run
     ensures { result ≡ open_of (normal_told fits) cursor.at }
 {
     match fits {
-        Normal::Bytes(_, _) => Run {
+        Ok((_, _)) => Run {
             from: cursor.at,
             at: cursor.at,
             put: 0,
         },
-        Normal::Refused(_) => Run {
+        Err(_) => Run {
             from: 0,
             at: 0,
             put: 0,

@@ -27,9 +27,7 @@ pub fn low_at(s: &[u8], at: usize, w: usize) -> u64
     ensures small { result < 256 ^ w }
 {
     let mut n: u64 = 0;
-    let mut i = w;
-    while 0 < i {
-        i -= 1;
+    for i in (0..w).rev() {
         n = n * 256 + wide(s[at + i]);
     }
     n
@@ -41,11 +39,9 @@ pub fn put_low(out: &mut [u8], at: usize, n: u64, w: usize)
     ensures { out.new ≡ sets out.old at (low_bytes w n) }
 {
     let mut m = n;
-    let mut i: usize = 0;
-    while i < w {
+    for i in 0..w {
         out[at + i] = (m % 256) as u8;
         m = m / 256;
-        i += 1;
     }
 }
 
@@ -56,10 +52,8 @@ pub fn high_at(s: &[u8], at: usize, w: usize) -> u64
     ensures small { result < 256 ^ w }
 {
     let mut n: u64 = 0;
-    let mut i: usize = 0;
-    while i < w {
+    for i in 0..w {
         n = n * 256 + wide(s[at + i]);
-        i += 1;
     }
     n
 }
@@ -70,9 +64,7 @@ pub fn put_high(out: &mut [u8], at: usize, n: u64, w: usize)
     ensures { out.new ≡ sets out.old at (high_bytes w n) }
 {
     let mut m = n;
-    let mut i = w;
-    while 0 < i {
-        i -= 1;
+    for i in (0..w).rev() {
         out[at + i] = (m % 256) as u8;
         m = m / 256;
     }
@@ -83,11 +75,7 @@ pub fn copy(src: &[u8], dst: &mut [u8])
     requires { length src.now ≤ length dst.old }
     ensures { dst.new ≡ src.now ++ drop (length src.now) dst.old }
 {
-    let mut i = 0;
-    while i < src.len() {
-        dst[i] = src[i];
-        i += 1;
-    }
+    dst[..src.len()].copy_from_slice(src);
 }
 
 // Copies the bytes from b up to e of s into out at o.

@@ -1,10 +1,10 @@
 -- A record is of one column: every column whose numbers fit their places packs to a record that stands for it, and every record that is let through is what the
 -- column it stands for packs to. So "a record that no column packs to" is one that is not let through.
 -- Assumes nothing.
-use mathlib.Core.Path.{◌≡◌, refl, sym, ap, ◌∙◌}
-use mathlib.Core.Bool.{true, false}
+use Rattle.std.specs.Prelude.{None, Option, Some}
+use mathlib.Core.Path.{◌≡◌, sym, ap, ◌∙◌}
+use mathlib.Core.Bool.{true}
 use mathlib.Core.List.{List, [], ◌∷◌, ◌++◌}
-use mathlib.Core.Option.{Option, none, some}
 use Prim.Native.Nat.{ℕ, zero, suc, ◌^◌, ◌<◌}
 use native.Mathlib.Omega.{arith}
 use lib.Dec.{ltb, eqb}
@@ -20,12 +20,12 @@ use Rattle.packed.specs.Packed.{record_of, index_at, unused_zero, has_collation,
 
 -- the numbers fit their places, and the names are those beside the table
 abbrev pub InPlace : Option Collation → Type 0
-InPlace none = Unit {0}
-InPlace (some k) = k.info < 256 ^ 4
+InPlace None = Unit {0}
+InPlace (Some k) = k.info < 256 ^ 4
 
 abbrev pub Beside : Option Schema → Schema → Type 0
-Beside none names = Unit {0}
-Beside (some m) names = m ≡ names
+Beside None names = Unit {0}
+Beside (Some m) names = m ≡ names
 
 abbrev column : TypeId → ℕ → ℕ → ℕ → Option Collation → Option Schema → Column
 column t n p x k m = record { type = t; length = n; precision = p; scale = x; collation = k; schema = m }
@@ -33,10 +33,10 @@ column t n p x k m = record { type = t; length = n; precision = p; scale = x; co
 module _ (t : TypeId) (n p x index : ℕ) (names : Schema) (l : n < 256 ^ 4) where
   packed : (k : Option Collation) (m : Option Schema) → InPlace k → Beside m names → column_of (record_of (column t n p x k m) index) names ≡ column t n p x k m
   unfolding column_of record_of keeps_places
-  packed none none k m = rw (type_again t, low_back 4 n l)
-  packed none (some s) k m = rw (type_again t, low_back 4 n l, m)
-  packed (some c) none k m = rw (type_again t, low_back 4 n l, low_back 4 c.info k)
-  packed (some c) (some s) k m = rw (type_again t, low_back 4 n l, low_back 4 c.info k, m)
+  packed None None k m = rw (type_again t, low_back 4 n l)
+  packed None (Some s) k m = rw (type_again t, low_back 4 n l, m)
+  packed (Some c) None k m = rw (type_again t, low_back 4 n l, low_back 4 c.info k)
+  packed (Some c) (Some s) k m = rw (type_again t, low_back 4 n l, low_back 4 c.info k, m)
 
 pub unpacked : (c : Column) (index : ℕ) (names : Schema) → c.length < 256 ^ 4 → InPlace c.collation → Beside c.schema names
     → column_of (record_of c index) names ≡ c

@@ -1,9 +1,9 @@
 -- What a column that was made of a record tells: the column that packs to it, its names the parts of a buffer that the given spans name.
 -- Assumes nothing.
+use Rattle.std.specs.Prelude.{None, Some}
 use mathlib.Core.Path.{◌≡◌, refl, ap, ◌∙◌}
 use mathlib.Core.Bool.{Bool, true, false}
 use mathlib.Core.List.{List, []}
-use mathlib.Core.Option.{none, some}
 use Prim.Native.Nat.{ℕ, zero-le}
 use lib.ListN.{length, get_or}
 use borrow.Author.Tests.{le-ltb}
@@ -11,9 +11,7 @@ use Rattle.lists.specs.Pick.{pick}
 use Rattle.format.specs.Answer.{Answer, gives, refuses, inside, part}
 use Rattle.format.specs.Descriptor as D
 use Rattle.column_type.specs.declared.Name.{Name}
-use Rattle.column_type.specs.declared.Collation.TheVariants as C
-use Rattle.column_type.specs.declared.Schema.TheVariants as S
-use Rattle.column_type.specs.Told.{collation_told, name_told, schema_told, column_told}
+use Rattle.column_type.specs.Told.{collation_told, name_told, schema_told, column_told, schema_of}
 use Rattle.column_type.proofs.Back.{type_told_lem}
 use Rattle.columns.specs.Told.{columns_told}
 use Rattle.packed.specs.Packed.{info_at, flags_at, has_collation, has_schema, keeps_places, collation_at, schema_at, broken_column, typed_as, column_of}
@@ -30,14 +28,18 @@ module _ (s r : List ℕ) (a b c : Name) where
   collation = go (has_collation (flags_at r))
     where
       go : (h : Bool)
-          → collation_told (pick h (C.Of (info_at r) (get_or r 12 0)) C.None) ≡ pick h (some (record { info = info_at r; sort = get_or r 12 0 })) none
+          → collation_told (pick h (Some (record { info = info_at r; sort = get_or r 12 0 })) None) ≡ pick h (Some (record {
+            info = info_at
+                r;
+            sort = get_or r 12 0;
+          })) None
       go true = refl
       go false = refl
 
   schema : schema_told s (schema_made (flags_at r) a b c) ≡ schema_at r names
   schema = go (has_schema (flags_at r))
     where
-      go : (h : Bool) → schema_told s (pick h (S.Names a b c) S.None) ≡ pick h (some names) none
+      go : (h : Bool) → schema_told s (pick h (Some (schema_of a b c)) None) ≡ pick h (Some names) None
       go true = refl
       go false = refl
 

@@ -1,28 +1,27 @@
 -- The column of a record, as the code makes it: in the declared types, of which the laws of rows speak. proofs/Told.antt says what it tells.
+use Rattle.std.specs.Prelude.{None, Option, Some}
 use Rattle.std.specs.Prelude.{ℕ, List, get_or, take, drop}
 use Rattle.lists.specs.Pick.{pick}
 use Rattle.format.specs.Answer.{Answer, gives, refuses}
 use Rattle.format.specs.Number.{low_nat}
 use Rattle.format.specs.Descriptor as D
-use Rattle.column_type.specs.Told.{plain_column}
+use Rattle.column_type.specs.Told.{plain_column, schema_of}
 use Rattle.column_type.specs.Back.{type_back}
 use Rattle.column_type.specs.declared.FixedLen.TheVariants as F
 use Rattle.column_type.specs.declared.TypeId.{TypeId}
 use Rattle.column_type.specs.declared.TypeId.TheVariants as T
 use Rattle.column_type.specs.declared.Collation.{Collation}
-use Rattle.column_type.specs.declared.Collation.TheVariants as C
 use Rattle.column_type.specs.declared.Name.{Name}
 use Rattle.column_type.specs.declared.Schema.{Schema}
-use Rattle.column_type.specs.declared.Schema.TheVariants as S
 use Rattle.column_type.specs.declared.Column.{Column}
 use Rattle.packed.specs.Each.{each}
 use Rattle.packed.specs.Packed.{info_at, flags_at, has_collation, has_schema, keeps_places}
 
-abbrev pub collation_made : List ℕ → Collation
-collation_made r = pick (has_collation (flags_at r)) (C.Of (info_at r) (get_or r 12 0)) C.None
+abbrev pub collation_made : List ℕ → Option Collation
+collation_made r = pick (has_collation (flags_at r)) (Some (record { info = info_at r; sort = get_or r 12 0 })) None
 
-abbrev pub schema_made : ℕ → Name → Name → Name → Schema
-schema_made flags a b c = pick (has_schema flags) (S.Names a b c) S.None
+abbrev pub schema_made : ℕ → Name → Name → Name → Option Schema
+schema_made flags a b c = pick (has_schema flags) (Some (schema_of a b c)) None
 
 abbrev pub fields_made : TypeId → List ℕ → Name → Name → Name → Column
 fields_made t r a b c =

@@ -1,6 +1,5 @@
 -- A column as a record of 16 bytes, for callers in other languages: document 02, "Descriptors in one packed table".
-use Rattle.std.specs.Prelude.{ℕ, ◌+◌, ◌/◌, ◌%◌, List, [], ◌∷◌, ◌++◌, Bool, true, length, get_or, take, drop, eqb, ltb, leb}
-use Rattle.std.proofs.Math.Option.{Option, none, some}
+use Rattle.std.specs.Prelude.{ℕ, ◌+◌, ◌/◌, ◌%◌, List, [], ◌∷◌, ◌++◌, Bool, true, length, get_or, take, drop, eqb, ltb, leb, None, Option, Some}
 use Rattle.lists.specs.Pick.{pick}
 use Rattle.format.specs.Answer.{Answer, gives, refuses, inside}
 use Rattle.format.specs.Number.{low_nat, low_bytes}
@@ -11,22 +10,22 @@ use Rattle.packed.specs.Each.{each}
 
 -- bit 0 of the flags: a collation is present; bit 1: a schema is
 abbrev pub collation_flag : Option Collation → ℕ
-collation_flag none = 0
-collation_flag (some c) = 1
+collation_flag None = 0
+collation_flag (Some c) = 1
 
 abbrev pub schema_flag : Option Schema → ℕ
-schema_flag none = 0
-schema_flag (some n) = 2
+schema_flag None = 0
+schema_flag (Some n) = 2
 
 -- "unused places zero"
 abbrev pub collation_places : Option Collation → List ℕ
-collation_places none = low_bytes 4 0 ++ (0 ∷ [])
-collation_places (some c) = low_bytes 4 c.info ++ (c.sort ∷ [])
+collation_places None = low_bytes 4 0 ++ (0 ∷ [])
+collation_places (Some c) = low_bytes 4 c.info ++ (c.sort ∷ [])
 
 -- "XML descriptors keep their spans beside the table, with an index in the record."
 abbrev pub index_places : Option Schema → ℕ → List ℕ
-index_places none index = low_bytes 2 0
-index_places (some n) index = low_bytes 2 index
+index_places None index = low_bytes 2 0
+index_places (Some n) index = low_bytes 2 index
 
 -- type, flags, precision, scale; length; collation and sort byte; a zero; the index of the names
 unfoldable pub record_of : Column → ℕ → List ℕ
@@ -65,10 +64,10 @@ keeps_places r =
     (unused_zero (has_schema (flags_at r)) (take 2 (drop 14 r))))))
 
 abbrev pub collation_at : List ℕ → Option Collation
-collation_at r = pick (has_collation (flags_at r)) (some (record { info = info_at r; sort = get_or r 12 0 })) none
+collation_at r = pick (has_collation (flags_at r)) (Some (record { info = info_at r; sort = get_or r 12 0 })) None
 
 abbrev pub schema_at : List ℕ → Schema → Option Schema
-schema_at r names = pick (has_schema (flags_at r)) (some names) none
+schema_at r names = pick (has_schema (flags_at r)) (Some names) None
 
 -- what stands at the places of a record, under a type
 abbrev pub fields_of : TypeId → List ℕ → Schema → Column

@@ -11,7 +11,7 @@ ghost use Rattle.packed.specs.Each.{parts_of};
 ghost use Rattle.packed.specs.Packed.{keeps_places};
 ghost use Rattle.packed.specs.Made.{collation_made, schema_made, fields_made, broken_made, column_made};
 
-use column_type::{Collation, Column, FixedLen, Name, Schema, TypeId, TypeRead};
+use column_type::{Collation, Column, FixedLen, Name, Schema, TypeId};
 
 // How many records a table has; a shorter last one is one.
 pub fn records(table: &[u8]) -> usize
@@ -62,25 +62,32 @@ fn keeps_places(r: &[u8]) -> bool
 }
 
 // The collation, where the flag says that there is one.
-fn collation_of(r: &[u8]) -> Collation
+fn collation_of(r: &[u8]) -> Option<Collation>
     requires { 16 ≤ length r.now }
     ensures { result ≡ collation_made r.now }
 {
     if r[1] % 2 == 1 {
         let info = wire::inner::low_at(r, 8, 4);
-        return Collation::Of(info as u32, r[12]);
+        return Some(Collation {
+            info: info as u32,
+            sort: r[12],
+        });
     }
-    Collation::None
+    None
 }
 
 // The names, where the flag says that there are some.
-fn schema_of(flags: u8, database: Name, owner: Name, collection: Name) -> Schema
+fn schema_of(flags: u8, database: Name, owner: Name, collection: Name) -> Option<Schema>
     ensures { result ≡ schema_made flags database owner collection }
 {
     if flags / 2 == 1 {
-        return Schema::Names(database, owner, collection);
+        return Some(Schema {
+            database,
+            owner,
+            collection,
+        });
     }
-    Schema::None
+    None
 }
 
 // What stands at the places, under a type.
@@ -114,10 +121,10 @@ pub fn column_of(r: &[u8], database: Name, owner: Name, collection: Name) -> Col
     if keeps_places(r) {
         let t = column_byte::type_of(r[0]);
         match t {
-            TypeRead::Type(ty) => {
+            Some(ty) => {
                 return fields_of(r, ty, database, owner, collection);
             }
-            TypeRead::Unknown => {
+            None => {
                 return broken();
             }
         }

@@ -6,35 +6,39 @@ ghost use Rattle.judge_step.specs.Steps.{judge_on, Inside};
 ghost use Rattle.packed.specs.Made.{column_made, no_name};
 
 use cursor::Cursor;
-use judge_step::{RowJudged, RowNeeds, inner as turn};
+use judge_step::{RowNeeds, inner as turn};
 use packed::inner as table_inner;
+use wire::Refusal;
 
 // One value more, behind those before it. Where the record tells the value's width, the column is
 // not made.
-fn behind(table: &[u8], i: usize, s: &[u8], row: RowNeeds) -> RowJudged
-    requires { (16 * i < length table.now) × Inside (length s.now) (row_judged_told (RowJudged.Row row)) }
-    ensures { ((b : List ℕ) → row_judged_told result ≡ judge_on (column_told b (column_made (drop (16 * i) table.now) no_name no_name no_name)) s.now (row_judged_told (RowJudged.Row row))) × Inside (length s.now) (row_judged_told result) }
+fn behind(table: &[u8], i: usize, s: &[u8], row: RowNeeds) -> Result<RowNeeds, Refusal>
+    requires { (16 * i < length table.now) × Inside (length s.now) (row_judged_told (Ok row)) }
+    ensures { ((b : List ℕ) → row_judged_told result ≡ judge_on (column_told b (column_made (drop (16 * i) table.now) no_name no_name no_name)) s.now (row_judged_told (Ok row))) × Inside (length s.now) (row_judged_told result) }
 {
     let at = row.next.at;
     let n = plain_look::inner::width_at(table, i, s, at);
     if n != 0 {
-        return RowJudged::Row(RowNeeds {
+        return Ok(RowNeeds {
             next: Cursor { at: at + n },
             joined: row.joined,
             normal: row.normal + n,
         });
     }
     let c = table_inner::column_at(table, i);
-    turn::judge_on(c, s, RowJudged::Row(row))
+    turn::judge_on(c, s, Ok(row))
 }
 
 // The turn of the column at i. A refused row stays refused.
-pub fn judge_at(table: &[u8], i: usize, s: &[u8], state: RowJudged) -> RowJudged
+pub fn judge_at(
+    table: &[u8],
+    i: usize,
+    s: &[u8],
+    state: Result<RowNeeds, Refusal>,
+) -> Result<RowNeeds, Refusal>
     requires { (16 * i < length table.now) × Inside (length s.now) (row_judged_told state) }
     ensures { ((b : List ℕ) → row_judged_told result ≡ judge_on (column_told b (column_made (drop (16 * i) table.now) no_name no_name no_name)) s.now (row_judged_told state)) × Inside (length s.now) (row_judged_told result) }
 {
-    match state {
-        RowJudged::Row(row) => behind(table, i, s, row),
-        RowJudged::Refused(e) => RowJudged::Refused(e),
-    }
+    let row = state?;
+    behind(table, i, s, row)
 }

@@ -12,19 +12,18 @@ ghost use Rattle.judge_step.specs.Told.{needs_of, row_judged_told};
 ghost use Rattle.packed.specs.Packed.{table_columns};
 
 use cursor::Cursor;
-use judge_step::{RowJudged, inner as turn};
+use judge_step::{RowNeeds, inner as turn};
+use wire::Refusal;
 
 // What the row at the cursor needs, or why it cannot be read.
-pub fn judge_packed(table: &[u8], s: &[u8], cursor: Cursor) -> RowJudged
+pub fn judge_packed(table: &[u8], s: &[u8], cursor: Cursor) -> Result<RowNeeds, Refusal>
     ensures { row_judged_told result ≡ map_read (needs_of (table_columns table.now)) (read_at (read_row (table_columns table.now)) s.now cursor.at) }
 {
     let columns = packed::records(table);
     let mut state = turn::start(columns, s.len(), cursor);
     let n = turn::turns(state, columns);
-    let mut i: usize = 0;
-    while i < n {
+    for i in 0..n {
         state = inner::judge_at(table, i, s, state);
-        i += 1;
     }
     state
 }

@@ -12,11 +12,17 @@ ghost use Rattle.normal_step.specs.Told.{normal_told};
 ghost use Rattle.packed.specs.Packed.{table_columns};
 
 use cursor::Cursor;
-use normal_step::{Normal, inner as turn};
+use normal_step::inner as turn;
 use value_normal::inner as value;
+use wire::Refusal;
 
 // The normal form of the row at the cursor: how many bytes it has, and where the row ends.
-pub fn normal_packed(table: &[u8], s: &[u8], cursor: Cursor, out: &mut [u8]) -> Normal
+pub fn normal_packed(
+    table: &[u8],
+    s: &[u8],
+    cursor: Cursor,
+    out: &mut [u8],
+) -> Result<(usize, Cursor), Refusal>
     ensures answer { normal_told result ≡ map_read length (fitted_read (λ (bytes : List ℕ). bytes) (read_at (normal (table_columns table.now)) s.now cursor.at) (length out.old)) }
     ensures room { out.new ≡ room_after_read (λ (bytes : List ℕ). bytes) (fitted_read (λ (bytes : List ℕ). bytes) (read_at (normal (table_columns table.now)) s.now cursor.at) (length out.old)) out.old }
 {
@@ -24,10 +30,8 @@ pub fn normal_packed(table: &[u8], s: &[u8], cursor: Cursor, out: &mut [u8]) -> 
     let fits = turn::fit_in(judged, out.len());
     let n = turn::turns(fits, packed::records(table));
     let mut run = turn::open_run(fits, cursor);
-    let mut i: usize = 0;
-    while i < n {
+    for i in 0..n {
         run = inner::normal_at(out, table, i, s, run);
-        i += 1;
     }
     value::close_run(out, s, run);
     fits

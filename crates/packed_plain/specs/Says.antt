@@ -1,6 +1,5 @@
 -- Columns whose values have one width, and what is said of them.
-use Rattle.std.specs.Prelude.{ℕ, ◌≡◌}
-use Rattle.std.proofs.Math.Option.{some}
+use Rattle.std.specs.Prelude.{ℕ, ◌≡◌, Some}
 use Rattle.format.specs.Descriptor.{FixedLen, fixed_len, byte_len, fixed_byte, byte_len_byte, Column, plain}
 use Rattle.format.specs.Scalar.{Kind, width}
 use Rattle.format.specs.Value.{fixed_width, fixed_family, untyped_type}
@@ -28,7 +27,7 @@ counted_column k = plain (byte_len (untyped_type k)) (width k)
 
 -- The kind has such a column, and its bytes are those that are written again.
 abbrev pub IsBare : Kind → Type 0
-IsBare k = (fixed_family (bare_type k) ≡ some (fixed_width k)) × (k ≡ Kind.bit → ⊥)
+IsBare k = (fixed_family (bare_type k) ≡ Some (fixed_width k)) × (k ≡ Kind.bit → ⊥)
 
 -- what an answer says of a column
 abbrev pub Says : Plain → Column → Type 0

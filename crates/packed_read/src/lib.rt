@@ -11,23 +11,23 @@ ghost use Rattle.packed.specs.Packed.{table_columns};
 ghost use Rattle.packed_read.specs.Told.{slotted, row_out, values_after};
 
 use cursor::Cursor;
-use judge_step::RowJudged;
+use judge_step::RowNeeds;
 use read_step::inner as turn;
 use wire::Refusal;
 
 // Is there place for three numbers a column? The last thing that is asked.
-fn place_for(judged: RowJudged, columns: usize, numbers: usize) -> RowJudged
+fn place_for(
+    judged: Result<RowNeeds, Refusal>,
+    columns: usize,
+    numbers: usize,
+) -> Result<RowNeeds, Refusal>
     ensures { row_judged_told result ≡ slotted columns numbers (row_judged_told judged) }
 {
-    match judged {
-        RowJudged::Row(row) => {
-            if numbers / 3 < columns {
-                return RowJudged::Refused(Refusal::Room);
-            }
-            RowJudged::Row(row)
-        }
-        RowJudged::Refused(earlier) => RowJudged::Refused(earlier),
+    let row = judged?;
+    if numbers / 3 < columns {
+        return Err(Refusal::Room);
     }
+    Ok(row)
 }
 
 // The row at the cursor: what it needed and where it ends. Its values stand at the front of the list
@@ -38,7 +38,7 @@ pub fn read_packed(
     cursor: Cursor,
     out: &mut [u8],
     values: &mut [u64],
-) -> RowJudged
+) -> Result<RowNeeds, Refusal>
     ensures told { row_judged_told result ≡ map_read (needs_of (table_columns table.now)) (row_out (table_columns table.now) s.now cursor.at (length out.old) (length values.old)) }
     ensures room { out.new ≡ room_after_read (copied_out_row (table_columns table.now)) (row_out (table_columns table.now) s.now cursor.at (length out.old) (length values.old)) out.old }
     ensures numbers { values.new ≡ values_after (table_columns table.now) s.now cursor.at (row_out (table_columns table.now) s.now cursor.at (length out.old) (length values.old)) values.old }
@@ -46,12 +46,7 @@ pub fn read_packed(
     let judged = packed_judge::judge_packed(table, s, cursor);
     let fits = turn::fit_in(judged, out.len());
     let columns = packed::records(table);
-    let placed = place_for(fits, columns, values.len());
-    match placed {
-        RowJudged::Row(row) => {
-            packed_slots::inner::take_values(out, values, table, s, cursor);
-            RowJudged::Row(row)
-        }
-        RowJudged::Refused(e) => RowJudged::Refused(e),
-    }
+    let row = place_for(fits, columns, values.len())?;
+    packed_slots::inner::take_values(out, values, table, s, cursor);
+    Ok(row)
 }

@@ -2,25 +2,30 @@
 
 #![tactic(auto)]
 
-ghost use Rattle.std.specs.Prelude.{◌≡◌, ◌+◌, ◌*◌, ◌<◌, ◌≤◌, length};
-ghost use Rattle.std.proofs.Math.Option.{none};
+ghost use Rattle.std.specs.Prelude.{◌≡◌, ◌+◌, ◌*◌, ◌<◌, ◌≤◌, length, None};
 ghost use Rattle.format.specs.Answer.{wrote};
 ghost use Rattle.format.specs.Row.{write_row};
-ghost use Rattle.wire.specs.Told.{wrote_told};
+ghost use Rattle.wire.specs.Told.{answer_told};
 ghost use Rattle.packed.specs.Packed.{table_columns};
 ghost use Rattle.packed_value.specs.Numbers.{givens, no_values, unless};
 ghost use Rattle.plain_write.specs.Bytes.{written_at};
 ghost use Rattle.row_step.specs.Steps.{size_on, Below};
 
 use packed::inner;
-use packed_value::{Judged, inner as value};
+use packed_value::inner as value;
 use row_step::inner as turn;
-use wire::Wrote;
+use wire::Refusal;
 
 // One value's size more, the column and the value made.
-fn size_made(table: &[u8], values: &[u64], buffer: &[u8], i: usize, s: Wrote) -> Wrote
-    requires { (16 * i < length table.now) × (3 * i + 3 ≤ length values.now) × Below 1024 (wrote_told s) }
-    ensures { wrote_told result ≡ size_on (wrote_told s) (written_at table.now values.now buffer.now i) }
+fn size_made(
+    table: &[u8],
+    values: &[u64],
+    buffer: &[u8],
+    i: usize,
+    s: Result<usize, Refusal>,
+) -> Result<usize, Refusal>
+    requires { (16 * i < length table.now) × (3 * i + 3 ≤ length values.now) × Below 1024 (answer_told s) }
+    ensures { answer_told result ≡ size_on (answer_told s) (written_at table.now values.now buffer.now i) }
 {
     let c = inner::column_at(table, i);
     let v = value::value_at(values, i);
@@ -28,47 +33,44 @@ fn size_made(table: &[u8], values: &[u64], buffer: &[u8], i: usize, s: Wrote) ->
 }
 
 // The same, by the numbers alone where they tell it.
-fn size_at(table: &[u8], values: &[u64], buffer: &[u8], i: usize, s: Wrote) -> Wrote
-    requires { (16 * i < length table.now) × (3 * i + 3 ≤ length values.now) × Below 1024 (wrote_told s) }
-    ensures { wrote_told result ≡ size_on (wrote_told s) (written_at table.now values.now buffer.now i) }
+fn size_at(
+    table: &[u8],
+    values: &[u64],
+    buffer: &[u8],
+    i: usize,
+    s: Result<usize, Refusal>,
+) -> Result<usize, Refusal>
+    requires { (16 * i < length table.now) × (3 * i + 3 ≤ length values.now) × Below 1024 (answer_told s) }
+    ensures { answer_told result ≡ size_on (answer_told s) (written_at table.now values.now buffer.now i) }
 {
-    match s {
-        Wrote::Bytes(sum) => {
-            let p = packed_plain::inner::plain_at(table, i);
-            let at = 3 * i;
-            let n = plain_write::inner::size_of(p, values[at]);
-            if n == 0 {
-                return size_made(table, values, buffer, i, Wrote::Bytes(sum));
-            }
-            Wrote::Bytes(sum + n)
-        }
-        Wrote::Refused(e) => Wrote::Refused(e),
+    let sum = s?;
+    let p = packed_plain::inner::plain_at(table, i);
+    let at = 3 * i;
+    let n = plain_write::inner::size_of(p, values[at]);
+    if n == 0 {
+        return size_made(table, values, buffer, i, Ok(sum));
     }
+    Ok(sum + n)
 }
 
 // The row's size, of values that were judged.
-fn size_judged(table: &[u8], values: &[u64], buffer: &[u8]) -> Wrote
-    requires { no_values values.now ≡ none }
-    ensures { wrote_told result ≡ wrote (write_row (table_columns table.now) (givens buffer.now values.now)) }
+fn size_judged(table: &[u8], values: &[u64], buffer: &[u8]) -> Result<usize, Refusal>
+    requires { no_values values.now ≡ None }
+    ensures { answer_told result ≡ wrote (write_row (table_columns table.now) (givens buffer.now values.now)) }
 {
     let columns = packed::records(table);
     let mut s = turn::start(columns, packed_value::count(values));
     let n = turn::turns(s, columns);
-    let mut i: usize = 0;
-    while i < n {
+    for i in 0..n {
         s = size_at(table, values, buffer, i, s);
-        i += 1;
     }
     s
 }
 
 // How many bytes the row takes, or why it cannot be written.
-pub fn size_packed(table: &[u8], values: &[u64], buffer: &[u8]) -> Wrote
-    ensures { wrote_told result ≡ wrote (unless (no_values values.now) (write_row (table_columns table.now) (givens buffer.now values.now))) }
+pub fn size_packed(table: &[u8], values: &[u64], buffer: &[u8]) -> Result<usize, Refusal>
+    ensures { answer_told result ≡ wrote (unless (no_values values.now) (write_row (table_columns table.now) (givens buffer.now values.now))) }
 {
-    let judged = packed_value::judge_values(values);
-    match judged {
-        Judged::Fine => size_judged(table, values, buffer),
-        Judged::Refused(e) => Wrote::Refused(e),
-    }
+    packed_value::judge_values(values)?;
+    size_judged(table, values, buffer)
 }

@@ -36,14 +36,14 @@ pub fn widen_four(n: u64) -> u64
 fn wide16(z: i16) -> u64
     ensures { result ≡ unsigned 8 z }
 {
-    widen_two(signed::of_i16(z) as u64)
+    signed::of_i64(i64::from(z))
 }
 
 // Of four bytes.
 fn wide32(z: i32) -> u64
     ensures { result ≡ unsigned 8 z }
 {
-    widen_four(signed::of_i32(z) as u64)
+    signed::of_i64(i64::from(z))
 }
 
 // A kind's number and one more.

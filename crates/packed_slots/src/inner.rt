@@ -18,7 +18,7 @@ use cursor::Cursor;
 use packed::inner as table_inner;
 use packed_slot::{Slot, inner as slot};
 use read_step::inner as turn;
-use row_place::{RowPlace, RowValue};
+use row_place::RowPlace;
 
 // Three numbers at a place.
 fn store(values: &mut [u64], at: usize, slot: Slot)
@@ -46,11 +46,11 @@ fn take_value(
 {
     let v = turn::take_on(out, c, s, place);
     match v {
-        RowValue::Value(found, next) => {
+        Ok((found, next)) => {
             store(values, at, slot::slot_of(found));
             next
         }
-        RowValue::Refused(_) => place,
+        Err(_) => place,
     }
 }
 
@@ -90,9 +90,7 @@ pub fn take_values(out: &mut [u8], values: &mut [u64], table: &[u8], s: &[u8], c
 {
     let n = packed::records(table);
     let mut place = RowPlace { cursor, copied: 0 };
-    let mut i: usize = 0;
-    while i < n {
+    for i in 0..n {
         place = take_at(out, values, table, i, s, place);
-        i += 1;
     }
 }

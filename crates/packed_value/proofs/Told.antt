@@ -17,14 +17,14 @@ use Rattle.bits.specs.declared.float.Float64.TheVariants as F64
 use Rattle.bits.specs.Told.{float32_of, float32_bits, float64_of, float64_bits}
 use Rattle.bits.proofs.Floats.{float32_back, float64_back}
 use Rattle.value_kind.specs.declared.Value.{Value}
-use Rattle.value_kind.specs.Told.{scalar_told, value_told}
+use Rattle.value_kind.specs.Told.{scalar_told, value_told, made32, made64}
 use Rattle.columns.specs.Told.{columns_told, values_told}
 use Rattle.packed.specs.Packed.{table_columns}
 use Rattle.packed.specs.Made.{table_made}
 use Rattle.packed.proofs.Each.{map_each}
 use Rattle.packed.proofs.Told.{table_told}
 use Rattle.packed_value.specs.Numbers.{value_of, given, givens}
-use Rattle.packed_value.specs.Made.{made32, made64, value_made, given_made, givens_made}
+use Rattle.packed_value.specs.Made.{value_made, given_made, givens_made}
 
 -- a float tells its bits
 told32 : (x : Float32) → scalar_told (made32 x) ≡ S.Scalar.f32 (float32_bits x)

@@ -1,33 +1,20 @@
 -- The value of three numbers, as the code makes it: in the declared types, of which the laws of rows speak. proofs/Told.antt says what it tells.
+use Rattle.std.specs.Prelude.{Err, Ok, Result, None, Option, Some}
 use Rattle.std.specs.Prelude.{ℕ, ◌%◌, ◌^◌, List, not, get_or, eqb}
-use Rattle.std.proofs.Math.Option.{Option, none, some}
 use Rattle.lists.specs.Pick.{pick}
-use Rattle.format.specs.Answer.{Refusal}
+use Rattle.format.specs.Answer as A
 use Rattle.format.specs.Number.{signed}
 use Rattle.bits.specs.Told.{float32_of, float64_of}
-use Rattle.bits.specs.declared.float.Float32.{Float32}
-use Rattle.bits.specs.declared.float.Float32.TheVariants as F32
-use Rattle.bits.specs.declared.float.Float64.{Float64}
-use Rattle.bits.specs.declared.float.Float64.TheVariants as F64
 use Rattle.wire.specs.Told.{refusal_told}
+use Rattle.wire.specs.declared.Refusal.{Refusal}
 use Rattle.value_kind.specs.declared.Scalar.{Scalar}
 use Rattle.value_kind.specs.declared.Scalar.TheVariants as C
 use Rattle.value_kind.specs.declared.Span.{Span}
 use Rattle.value_kind.specs.declared.Value.{Value}
 use Rattle.value_kind.specs.declared.Value.TheVariants as W
+use Rattle.value_kind.specs.Told.{made32, made64}
 use Rattle.packed.specs.Each.{each}
 use Rattle.packed_value.specs.Numbers.{narrow}
-use Rattle.packed_value.specs.declared.Judged.{Judged}
-use Rattle.packed_value.specs.declared.Judged.TheVariants as J
-
--- a float, or a NaN by its pattern
-abbrev pub made32 : Float32 → Scalar
-made32 (F32.Value x) = C.F32 x
-made32 (F32.Nan n) = C.F32Nan n
-
-abbrev pub made64 : Float64 → Scalar
-made64 (F64.Value x) = C.F64 x
-made64 (F64.Nan n) = C.F64Nan n
 
 abbrev pub span_of : ℕ → ℕ → Span
 span_of start count = record { start = start; count = count }
@@ -53,6 +40,6 @@ abbrev pub givens_made : List ℕ → List Value
 givens_made vs = each 3 given_made vs
 
 -- what judging tells: why there is no value
-abbrev pub judged_told : Judged → Option Refusal
-judged_told J.Fine = none
-judged_told (J.Refused e) = some (refusal_told e)
+abbrev pub judged_told : Result (Unit {0}) Refusal → Option A.Refusal
+judged_told (Ok tt) = None
+judged_told (Err e) = Some (refusal_told e)

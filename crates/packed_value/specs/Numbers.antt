@@ -1,6 +1,5 @@
 -- A value as three numbers, for callers in other languages: its kind's, and two more.
-use Rattle.std.specs.Prelude.{ℕ, ◌%◌, ◌^◌, List, [], ◌∷◌, ◌++◌, Bool, true, not, length, get_or, eqb, ltb, ℤ}
-use Rattle.std.proofs.Math.Option.{Option, none, some}
+use Rattle.std.specs.Prelude.{ℕ, ◌%◌, ◌^◌, List, [], ◌∷◌, ◌++◌, Bool, true, not, length, get_or, eqb, ltb, ℤ, None, Option, Some}
 use Rattle.lists.specs.Pick.{pick}
 use Rattle.format.specs.Answer.{Refusal, kind, rule, Answer, refuses, part}
 use Rattle.format.specs.Number.{signed, unsigned, high_bytes}
@@ -55,7 +54,7 @@ given buffer v = value_of buffer (get_or v 0 0) (get_or v 1 0) (get_or v 2 0)
 
 -- Why they are no value: "unknown kind 3"; a list that ends within a value is 6.
 abbrev pub no_value : List ℕ → Option Refusal
-no_value v = pick (ltb (length v) 3) (some rule) (pick (is_value (get_or v 0 0) (get_or v 1 0) (get_or v 2 0)) none (some kind))
+no_value v = pick (ltb (length v) 3) (Some rule) (pick (is_value (get_or v 0 0) (get_or v 1 0) (get_or v 2 0)) None (Some kind))
 
 -- ---- the values of a row, one behind another
 
@@ -63,14 +62,14 @@ abbrev pub givens : List ℕ → List ℕ → List Given
 givens buffer vs = each 3 (given buffer) vs
 
 abbrev pub first_of : List (Option Refusal) → Option Refusal
-first_of [] = none
-first_of (some e ∷ os) = some e
-first_of (none ∷ os) = first_of os
+first_of [] = None
+first_of (Some e ∷ os) = Some e
+first_of (None ∷ os) = first_of os
 
 abbrev pub no_values : List ℕ → Option Refusal
 no_values vs = first_of (each 3 no_value vs)
 
 -- "before anything else"
 abbrev pub unless : {A : Type 0} → Option Refusal → Answer A → Answer A
-unless (some e) answer = refuses e
-unless none answer = answer
+unless (Some e) answer = refuses e
+unless None answer = answer

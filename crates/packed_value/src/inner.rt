@@ -1,35 +1,11 @@
 // The value of three numbers, for the crates of this repository. Numbers that are none make some
 // value all the same: whoever calls has judged them.
 ghost use Rattle.std.specs.Prelude.{◌≡◌, ◌≤◌, ◌*◌, ◌+◌, length, drop};
-ghost use Rattle.bits.specs.Told.{float32_of, float64_of};
-ghost use Rattle.packed_value.specs.Made.{made32, made64, value_made, given_made};
+ghost use Rattle.packed_value.specs.Made.{value_made, given_made};
 
-use bits::float::{Float32, Float64};
 use bits::{float, signed};
 use value_kind::{Scalar, Span, Value};
 use wire::Guid;
-
-// The float of 32 bits; a NaN by its pattern.
-fn float32(n: u32) -> Scalar
-    ensures { result ≡ made32 (float32_of n) }
-{
-    let x = float::from_bits32(n);
-    match x {
-        Float32::Value(v) => Scalar::F32(v),
-        Float32::Nan(m) => Scalar::F32Nan(m),
-    }
-}
-
-// The float of 64 bits; a NaN by its pattern.
-fn float64(n: u64) -> Scalar
-    ensures { result ≡ made64 (float64_of n) }
-{
-    let x = float::from_bits64(n);
-    match x {
-        Float64::Value(v) => Scalar::F64(v),
-        Float64::Nan(m) => Scalar::F64Nan(m),
-    }
-}
 
 // The value of a kind's number and two more.
 pub fn value_of(kind: u64, first: u64, second: u64) -> Value
@@ -41,8 +17,8 @@ pub fn value_of(kind: u64, first: u64, second: u64) -> Value
         3 => Value::Scalar(Scalar::I16(signed::to_i16((first % 65536) as u16))),
         4 => Value::Scalar(Scalar::I32(signed::to_i32((first % 4294967296) as u32))),
         5 => Value::Scalar(Scalar::I64(signed::to_i64(first))),
-        6 => Value::Scalar(float32((first % 4294967296) as u32)),
-        7 => Value::Scalar(float64(first)),
+        6 => Value::Scalar(Scalar::from(float::from_bits32((first % 4294967296) as u32))),
+        7 => Value::Scalar(Scalar::from(float::from_bits64(first))),
         8 => Value::Scalar(Scalar::Guid(Guid {
             high: first,
             low: second,

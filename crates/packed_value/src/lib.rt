@@ -11,13 +11,6 @@ ghost use Rattle.packed_value.specs.Made.{judged_told};
 
 use wire::Refusal;
 
-// Whether numbers are values.
-#[derive(Clone, Copy)]
-pub enum Judged {
-    Fine,
-    Refused(Refusal),
-}
-
 // Are these the 64 bits of an integer of two bytes?
 fn signed_two(n: u64) -> bool
     ensures { result ≡ is_signed 2 n }
@@ -72,16 +65,16 @@ pub fn is_value(kind: u64, first: u64, second: u64) -> bool
 }
 
 // Why the three numbers that a list begins with are no value.
-pub fn judge_value(v: &[u64]) -> Judged
+pub fn judge_value(v: &[u64]) -> Result<(), Refusal>
     ensures { judged_told result ≡ no_value v.now }
 {
     if v.len() < 3 {
-        return Judged::Refused(Refusal::Rule);
+        return Err(Refusal::Rule);
     }
     if is_value(v[0], v[1], v[2]) {
-        return Judged::Fine;
+        return Ok(());
     }
-    Judged::Refused(Refusal::Kind)
+    Err(Refusal::Kind)
 }
 
 // How many values a list has; a cut last one is one.
@@ -96,22 +89,12 @@ pub fn count(values: &[u64]) -> usize
 }
 
 // Why the values of a list are none, from the left.
-pub fn judge_values(values: &[u64]) -> Judged
+pub fn judge_values(values: &[u64]) -> Result<(), Refusal>
     ensures { judged_told result ≡ no_values values.now }
 {
-    let n = count(values);
-    let mut i: usize = 0;
-    while i < n {
+    for i in 0..count(values) {
         let at = 3 * i;
-        let v = judge_value(&values[at..]);
-        match v {
-            Judged::Fine => {
-                i += 1;
-            }
-            Judged::Refused(e) => {
-                return Judged::Refused(e);
-            }
-        }
+        judge_value(&values[at..])?;
     }
-    Judged::Fine
+    Ok(())
 }

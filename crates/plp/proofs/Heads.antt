@@ -1,18 +1,16 @@
 -- What the definitions of a head and of a walk say once their tests are known: the refusal that comes first, or where the walk stands.
 -- Assumes nothing.
-use mathlib.Core.Path.{◌≡◌, refl, ap, sym, ◌∙◌}
+use mathlib.Core.Path.{◌≡◌, ap, ◌∙◌}
 use mathlib.Core.List.{List}
-use mathlib.Core.Bool.{Bool, true, false}
+use mathlib.Core.Bool.{true, false}
 use Prim.Native.Nat.{ℕ, suc, ◌+◌, ◌-◌, ◌<◌, ◌≤◌}
 use native.Mathlib.Omega.{arith}
-use lib.ListN.{length, take, drop}
+use lib.ListN.{length}
 use lib.Dec.{ltb}
-use borrow.Author.Tests.{lt-ltb, le-ltb, ltb-true, ltb-false, ne_eqb}
-use Rattle.format.specs.Answer.{Refusal, missing, long, sequence, Answer, gives, refuses, Read, took, stops, stop_if, further, read_at}
-use Rattle.format.specs.Number.{low_nat, read_low}
-use Rattle.format.specs.Plp.{plp_bound, Walk, above_total, unlike_total, is_odd, end_of, chunk_of, length_at, take_head, Walked, walk_from, walk_chunks}
+use borrow.Author.Tests.{lt-ltb, le-ltb, ne_eqb}
+use Rattle.format.specs.Answer.{Refusal, missing, long, sequence, gives, refuses}
+use Rattle.format.specs.Plp.{plp_bound, Walk, above_total, unlike_total, is_odd, end_of, chunk_of, length_at, take_head, walk_from, walk_chunks}
 use Rattle.format.proofs.Chunks.{at_end, behind, walk-ended}
-use Rattle.format.proofs.Place.{at_behind, at_inside}
 
 -- ---- a zero head
 
@@ -65,31 +63,32 @@ module _ (s : List ℕ) (w : Walk) where
   unfolding take_head
   head_chunk h n e z = rw (le-ltb (length s) (w.at + 4) h, ← e, ne_eqb n 0 z)
 
--- ---- a walk that has taken k heads, and is allowed so many more
+-- ---- a walk that has taken k of the heads that it is allowed
 
-module _ (left k : ℕ) (s : List ℕ) (w : Walk) where
-  abbrev stands : Answer Walked
-  stands = gives (record { walk = w; taken = k })
-
+module _ (allowed k : ℕ) (s : List ℕ) (w : Walk) where
   one_more : (a : ℕ) (x : Walk) → w.ended ≡ false → take_head s w ≡ gives x → walk_from (suc a) s w k ≡ walk_from a s x (k + 1)
   unfolding walk_from
   one_more a x d e = rw (e, d)
 
-  pub walk_more : (x : Walk) → 0 < left → w.ended ≡ false → take_head s w ≡ gives x → walk_from left s w k ≡ walk_from (left - 1) s x (k + 1)
+  pub walk_more : (x : Walk) → k < allowed → w.ended ≡ false → take_head s w ≡ gives x →
+      walk_from (allowed - k) s w k ≡ walk_from (allowed - (k + 1)) s x (k + 1)
   walk_more x h d e =
-      let m : left ≡ suc (left - 1) = omega arith in
-      ap (λ (n : ℕ). walk_from n s w k) m ∙ one_more (left - 1) x d e
+      let m : allowed - k ≡ suc (allowed - (k + 1)) = omega arith in
+      ap (λ (n : ℕ). walk_from n s w k) m ∙ one_more (allowed - (k + 1)) x d e
 
-  pub walk_refused : (r : Refusal) → 0 < left → w.ended ≡ false → take_head s w ≡ refuses r → walk_from left s w k ≡ refuses r
+  pub walk_refused : (r : Refusal) → k < allowed → w.ended ≡ false → take_head s w ≡ refuses r → walk_from (allowed - k) s w k ≡ refuses r
   unfolding walk_from
-  walk_refused r h d e = let m : left ≡ suc (left - 1) = omega arith in rw (m, e, d)
+  walk_refused r h d e = let m : allowed - k ≡ suc (allowed - (k + 1)) = omega arith in rw (m, e, d)
 
-  pub walk_stays : w.ended ≡ true → walk_from left s w k ≡ stands
-  walk_stays d = walk-ended s left w k d
+  pub walk_stays : w.ended ≡ true → walk_from (allowed - k) s w k ≡ gives (record { walk = w; taken = k })
+  walk_stays d = walk-ended s (allowed - k) w k d
 
-  pub walk_spent : left ≤ 0 → walk_from left s w k ≡ stands
+  pub walk_spent : k ≤ allowed → allowed ≤ k → walk_from (allowed - k) s w k ≡ gives (record { walk = w; taken = allowed })
   unfolding walk_from
-  walk_spent h = let m : left ≡ 0 = omega arith in rw m
+  walk_spent m h =
+      let z : allowed - k ≡ 0 = omega arith in
+      let t : k ≡ allowed = omega arith in
+      rw (z, t)
 
 -- "A place behind the input's end is 1 before anything else."
 module _ (allowed : ℕ) (s : List ℕ) (w : Walk) where
@@ -100,22 +99,3 @@ module _ (allowed : ℕ) (s : List ℕ) (w : Walk) where
   pub walk_inside : w.at ≤ length s → walk_chunks allowed s w ≡ walk_from allowed s w 0
   unfolding walk_chunks
   walk_inside h = rw (le-ltb (length s) w.at h)
-
--- a number stops for missing bytes alone
-only_missing : (b : Bool) (v n : ℕ) (e : Refusal) → stop_if b missing (took v n) ≡ stops e → e ≡ missing
-only_missing true v n e h = cc
-only_missing false v n e h = let z : ◌≡◌ {A = ℕ} 0 1 = cc in absurd (omega arith)
-
-further-missing : (at : ℕ) (r : Read ℕ) (e : Refusal) → ((d : Refusal) → r ≡ stops d → d ≡ missing) → further at r ≡ stops e → e ≡ missing
-further-missing at (took v n) e p h = let z : ◌≡◌ {A = ℕ} 0 1 = cc in absurd (omega arith)
-further-missing at (stops d) e p h = let q : d ≡ e = cc in sym q ∙ p d refl
-
-pub low-stops : (w : ℕ) (s : List ℕ) (at : ℕ) (e : Refusal) → read_at (read_low w) s at ≡ stops e → e ≡ missing
-unfolding read_low
-low-stops w s at e h = go (ltb (length s) at) refl
-  where
-    go : (b : Bool) → ltb (length s) at ≡ b → e ≡ missing
-    go true t = let q : stops missing ≡ stops e = sym (at_behind (read_low w) s at (ltb-true (length s) at t)) ∙ h in cc
-    go false t =
-        further-missing at (read_low w (drop at s)) e (λ d. only_missing (ltb (length (drop at s)) w) (low_nat (take w (drop at s))) w d)
-        (sym (at_inside (read_low w) s at (ltb-false (length s) at t)) ∙ h)

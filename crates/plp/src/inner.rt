@@ -4,22 +4,22 @@ ghost use Rattle.std.specs.Prelude.{◌≡◌, ◌+◌, ◌≤◌, length};
 ghost use Rattle.format.specs.Plp.{end_of, chunk_of};
 ghost use Rattle.plp.specs.Told.{walk_told, headed_told};
 
-use crate::{Headed, Walk};
+use crate::Walk;
 use wire::Refusal;
 
 // A zero head.
-pub fn end_of(w: Walk) -> Headed
+pub fn end_of(w: Walk) -> Result<Walk, Refusal>
     requires { w.at + 4 ≤ 18446744073709551615 }
     ensures { headed_told result ≡ end_of (walk_told w) }
 {
     let total = w.total;
     if plp_rule::unlike_total(total, w.sum) {
-        return Headed::Refused(Refusal::Sequence);
+        return Err(Refusal::Sequence);
     }
     if plp_rule::is_odd(w.text, w.sum) {
-        return Headed::Refused(Refusal::Sequence);
+        return Err(Refusal::Sequence);
     }
-    Headed::Walk(Walk {
+    Ok(Walk {
         at: w.at + 4,
         sum: w.sum,
         total,
@@ -29,22 +29,22 @@ pub fn end_of(w: Walk) -> Headed
 }
 
 // A head of n bytes, not zero.
-pub fn chunk_of(s: &[u8], w: Walk, n: u64) -> Headed
+pub fn chunk_of(s: &[u8], w: Walk, n: u64) -> Result<Walk, Refusal>
     requires { w.at + 4 ≤ length s.now }
     ensures { headed_told result ≡ chunk_of s.now (walk_told w) n }
 {
     let total = w.total;
     if plp_rule::above(plp_rule::bound(), w.sum, n) {
-        return Headed::Refused(Refusal::Long);
+        return Err(Refusal::Long);
     }
     if plp_rule::above_total(total, w.sum, n) {
-        return Headed::Refused(Refusal::Sequence);
+        return Err(Refusal::Sequence);
     }
     let count = n as usize;
     if s.len() - (w.at + 4) < count {
-        return Headed::Refused(Refusal::Missing);
+        return Err(Refusal::Missing);
     }
-    Headed::Walk(Walk {
+    Ok(Walk {
         at: w.at + 4 + count,
         sum: w.sum + n,
         total,

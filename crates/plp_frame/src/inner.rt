@@ -1,6 +1,5 @@
 // A leaf that asks that the room has the form's size, for the crates of this repository.
-ghost use Rattle.std.specs.Prelude.{◌≡◌, ◌+◌, length};
-ghost use Rattle.std.proofs.Math.Option.{some};
+ghost use Rattle.std.specs.Prelude.{◌≡◌, ◌+◌, length, Some};
 ghost use Rattle.format.specs.Plp.{plp_bytes};
 ghost use Rattle.plp_frame.specs.Frame.{FormRoom, middle};
 
@@ -11,7 +10,7 @@ use wire::marks;
 pub fn put_frame(out: &mut [u8]) -> usize
     requires { FormRoom out.old }
     ensures end { result ≡ 12 + length (middle out.old) }
-    ensures room { out.new ≡ plp_bytes (some (middle out.old)) }
+    ensures room { out.new ≡ plp_bytes (Some (middle out.old)) }
 {
     let last = out.len() - 4;
     wire::inner::put_low(out, last, 0, 4);

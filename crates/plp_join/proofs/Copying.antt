@@ -2,10 +2,10 @@
 -- A walk that came to its end says of the head at its place that it is zero, and nothing is left to join; or that its bytes are there, and what is left is
 -- these bytes and what the walk behind them joins.
 -- Assumes nothing.
+use Rattle.std.specs.Prelude.{None, Option, Some}
 use mathlib.Core.Path.{◌≡◌, refl, ap, sym, ◌∙◌}
 use mathlib.Core.List.{List, [], ◌++◌}
 use mathlib.Core.Bool.{Bool, false}
-use mathlib.Core.Option.{Option, none, some}
 use Prim.Native.Nat.{ℕ, zero, suc, ◌+◌, ◌-◌, ◌<◌, ◌≤◌}
 use native.Mathlib.Omega.{arith}
 use lib.ListN.{length, take, drop, length-drop, length-append}
@@ -121,9 +121,9 @@ module _ (s j : List ℕ) (o at n : ℕ) (e : n ≡ length_at s at) (b : o ≤ l
 
 -- ---- where the copy starts
 
-abbrev of_content : (r : Read (Option (List ℕ))) → IsContent r → (n : ℕ) × (r ≡ took (some (content_in r)) n)
-of_content (took none n) i = absurd i
-of_content (took (some c) n) i = (n, refl)
+abbrev of_content : (r : Read (Option (List ℕ))) → IsContent r → (n : ℕ) × (r ≡ took (Some (content_in r)) n)
+of_content (took None n) i = absurd i
+of_content (took (Some c) n) i = (n, refl)
 of_content (stops e) i = absurd i
 
 pub starts : (text : Bool) (s : List ℕ) → IsContent (read_plp text s) → Going s 8 (content_in (read_plp text s))

@@ -1,10 +1,10 @@
 -- A whole value: what judging it says, and what joining it into room answers and leaves in the room.
 -- Judging tells content by its count; that count is the walk's sum, and the chunks joined are as long as that.
 -- Assumes nothing.
+use Rattle.std.specs.Prelude.{None, Option, Some}
 use mathlib.Core.Path.{◌≡◌, ap, sym, ◌∙◌}
 use mathlib.Core.List.{List, ◌++◌}
 use mathlib.Core.Bool.{Bool, true, false}
-use mathlib.Core.Option.{Option, none, some}
 use Prim.Native.Nat.{ℕ, ◌+◌, ◌<◌, ◌≤◌}
 use native.Mathlib.Omega.{arith}
 use lib.ListN.{length, drop}
@@ -21,17 +21,17 @@ use Rattle.plp.proofs.Heads.{walk_inside}
 -- ---- judging
 
 module _ (text : Bool) (s : List ℕ) where
-  pub judge_null : (n : ℕ) → open_walk text s 0 ≡ took none n → map_read counted (read_plp text s) ≡ took none 8
+  pub judge_null : (n : ℕ) → open_walk text s 0 ≡ took None n → map_read counted (read_plp text s) ≡ took None 8
   judge_null n h = ap (map_read counted) (plp_null_lem text s n h)
 
   pub judge_stops : (e : Refusal) → open_walk text s 0 ≡ stops e → map_read counted (read_plp text s) ≡ stops e
   judge_stops e h = ap (map_read counted) (plp_stops text s e h)
 
-  module _ (w : Walk) (n : ℕ) (h : open_walk text s 0 ≡ took (some w) n) where
+  module _ (w : Walk) (n : ℕ) (h : open_walk text s 0 ≡ took (Some w) n) where
     from_front : walk_chunks (length s + 1) s w ≡ walk_from (length s + 1) s w 0
     from_front = walk_inside (length s + 1) s w (open_inside text s w n h).0
 
-    pub judge_content : (x : Walked) → walk_chunks (length s + 1) s w ≡ gives x → map_read counted (read_plp text s) ≡ took (some x.walk.sum) x.walk.at
+    pub judge_content : (x : Walked) → walk_chunks (length s + 1) s w ≡ gives x → map_read counted (read_plp text s) ≡ took (Some x.walk.sum) x.walk.at
     judge_content x g =
         let e : walk_from (length s + 1) s w 0 ≡ gives x = sym from_front ∙ g in
         let z = (open_inside text s w n h).1 in
@@ -43,10 +43,10 @@ module _ (text : Bool) (s : List ℕ) where
 
 -- ---- back from the count
 
-pub counted-null : (r : Read (Option (List ℕ))) (n : ℕ) → map_read counted r ≡ took none n → r ≡ took none n
-counted-null (took none m) n h = let q : m ≡ n = cc in ap (took none) q
-counted-null (took (some c) m) n h = let z : ◌≡◌ {A = ℕ} 0 1 = cc in absurd (omega arith)
-counted-null (stops e) n h = no_took e none n h
+pub counted-null : (r : Read (Option (List ℕ))) (n : ℕ) → map_read counted r ≡ took None n → r ≡ took None n
+counted-null (took None m) n h = let q : m ≡ n = cc in ap (took None) q
+counted-null (took (Some c) m) n h = let z : ◌≡◌ {A = ℕ} 0 1 = cc in absurd (omega arith)
+counted-null (stops e) n h = no_took e None n h
 
 pub counted-stops : (r : Read (Option (List ℕ))) (e : Refusal) → map_read counted r ≡ stops e → r ≡ stops e
 counted-stops (took o m) e h = let z : ◌≡◌ {A = ℕ} 0 1 = cc in absurd (omega arith)
@@ -54,16 +54,16 @@ counted-stops (stops d) e h = let q : d ≡ e = cc in ap stops q
 
 pub record Counted (r : Read (Option (List ℕ))) (m n : ℕ) : Type 0 where
   pub is : IsContent r
-  pub content : r ≡ took (some (content_in r)) n
+  pub content : r ≡ took (Some (content_in r)) n
   pub long : length (content_in r) ≡ m
 
-pub counted-content : (r : Read (Option (List ℕ))) (m n : ℕ) → map_read counted r ≡ took (some m) n → Counted r m n
-counted-content (took none k) m n h = let z : ◌≡◌ {A = ℕ} 0 1 = cc in absurd (omega arith)
-counted-content (took (some c) k) m n h =
+pub counted-content : (r : Read (Option (List ℕ))) (m n : ℕ) → map_read counted r ≡ took (Some m) n → Counted r m n
+counted-content (took None k) m n h = let z : ◌≡◌ {A = ℕ} 0 1 = cc in absurd (omega arith)
+counted-content (took (Some c) k) m n h =
     let q : k ≡ n = cc in
     let l : length c ≡ m = cc in
-    record { is = tt; content = ap (took (some c)) q; long = l }
-counted-content (stops e) m n h = no_took e (some m) n h
+    record { is = tt; content = ap (took (Some c)) q; long = l }
+counted-content (stops e) m n h = no_took e (Some m) n h
 
 -- ---- joining: the answer and the room, for a value r that was read behind a place
 
@@ -76,7 +76,7 @@ module _ (r : Read (Option (List ℕ))) (at : ℕ) (out : List ℕ) where
     pub answered : answer ≡ map_read counted read
     pub left : after ≡ room_after_read plp_copied read out
 
-  pub joins_null : (n : ℕ) → map_read counted r ≡ took none n → Joins (took none (at + n)) out
+  pub joins_null : (n : ℕ) → map_read counted r ≡ took None n → Joins (took None (at + n)) out
   unfolding fitted_read room_after_read
   joins_null n h =
       let e = counted-null r n h in
@@ -87,7 +87,7 @@ module _ (r : Read (Option (List ℕ))) (at : ℕ) (out : List ℕ) where
   unfolding fitted_read room_after_read
   joins_stops e h = let q = counted-stops r e h in record { answered = rw q; left = rw q }
 
-  module _ (m n : ℕ) (h : map_read counted r ≡ took (some m) n) where
+  module _ (m n : ℕ) (h : map_read counted r ≡ took (Some m) n) where
     pub joins_short : length out < m → Joins (stops room) out
     unfolding fitted_read room_after_read
     joins_short l =
@@ -95,7 +95,7 @@ module _ (r : Read (Option (List ℕ))) (at : ℕ) (out : List ℕ) where
         let t : ltb (length out) (length (content_in r)) ≡ true = lt-ltb (length out) (length (content_in r)) (omega (arith, c.long)) in
         record { answered = rw (c.content, t); left = rw (c.content, t) }
 
-    pub joins_content : m ≤ length out → Joins (took (some m) (at + n)) (content_in r ++ drop (length (content_in r)) out)
+    pub joins_content : m ≤ length out → Joins (took (Some m) (at + n)) (content_in r ++ drop (length (content_in r)) out)
     unfolding fitted_read room_after_read
     joins_content l =
         let c = counted-content r m n h in

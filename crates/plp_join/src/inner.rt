@@ -5,7 +5,6 @@ ghost use Rattle.format.specs.Answer.{map_read, room_after_read};
 ghost use Rattle.format.specs.Plp.{read_plp, plp_copied};
 ghost use Rattle.plp_join.specs.Told.{joined_told, counted, join_in, IsContent, content_of, placed};
 
-use crate::{Joined, Judged};
 use wire::{Cursor, Refusal};
 
 // The chunks of a value that was judged, joined at the front of out: a head's bytes are copied until
@@ -29,21 +28,24 @@ pub fn copy_chunks(rest: &[u8], text: bool, out: &mut [u8])
 }
 
 // The value that the rest of the input, from `at` on, begins with.
-pub fn join_in(rest: &[u8], at: usize, text: bool, out: &mut [u8]) -> Joined
+pub fn join_in(
+    rest: &[u8],
+    at: usize,
+    text: bool,
+    out: &mut [u8],
+) -> Result<(Option<usize>, Cursor), Refusal>
     requires { at + length rest.now ≤ 18446744073709551615 }
     ensures answer { joined_told result ≡ map_read counted (join_in text rest.now at (length out.old)) }
     ensures room { out.new ≡ room_after_read plp_copied (join_in text rest.now at (length out.old)) out.old }
 {
-    let judged = crate::judge_plp(rest, text);
-    match judged {
-        Judged::Null => Joined::Null(Cursor { at: at + 8 }),
-        Judged::Refused(e) => Joined::Refused(e),
-        Judged::Content(count, end) => {
+    match crate::judge_plp(rest, text)? {
+        None => Ok((None, Cursor { at: at + 8 })),
+        Some((count, end)) => {
             if out.len() < count {
-                return Joined::Refused(Refusal::Room);
+                return Err(Refusal::Room);
             }
             copy_chunks(rest, text, out);
-            Joined::Content(count, Cursor { at: at + end })
-        }
+            Ok((Some(count), Cursor { at: at + end }))
+        },
     }
 }

@@ -8,19 +8,12 @@ ghost use Rattle.plp_rule.specs.Told.{total_told, eight_told};
 
 use wire::{Refusal, marks};
 
-// The total that the eight bytes say, or that they do not.
-#[derive(Clone, Copy)]
-pub enum Total {
-    Unknown,
-    Known(u64),
-}
-
-// What the eight bytes say.
+// What the eight bytes say. Two cases with names: an option of the option that a total is would say
+// null and unknown alike.
 #[derive(Clone, Copy)]
 pub enum Eight {
     Null,
-    Chunked(Total),
-    Refused(Refusal),
+    Chunked(Option<u64>),
 }
 
 // The bound of a PLP value's content.
@@ -31,19 +24,19 @@ pub fn bound() -> u64
 }
 
 // All FF is null; FE then seven FF is unknown; else the total, within the bound.
-pub fn eight_of(n: u64) -> Eight
+pub fn eight_of(n: u64) -> Result<Eight, Refusal>
     ensures { eight_told result ≡ head_of n [] }
 {
     if n == marks::PLP_NULL {
-        return Eight::Null;
+        return Ok(Eight::Null);
     }
     if n == marks::PLP_UNKNOWN {
-        return Eight::Chunked(Total::Unknown);
+        return Ok(Eight::Chunked(None));
     }
     if bound() < n {
-        return Eight::Refused(Refusal::Long);
+        return Err(Refusal::Long);
     }
-    Eight::Chunked(Total::Known(n))
+    Ok(Eight::Chunked(Some(n)))
 }
 
 // Are n bytes more above the limit?
@@ -60,22 +53,22 @@ pub fn above(limit: u64, sum: u64, n: u64) -> bool
 }
 
 // Are n bytes more above a known total?
-pub fn above_total(total: Total, sum: u64, n: u64) -> bool
+pub fn above_total(total: Option<u64>, sum: u64, n: u64) -> bool
     ensures { result ≡ above_total (total_told total) (sum + n) }
 {
     match total {
-        Total::Unknown => false, // there is no total to be above
-        Total::Known(t) => above(t, sum, n),
+        None => false, // there is no total to be above
+        Some(t) => above(t, sum, n),
     }
 }
 
 // Is the sum another than a known total?
-pub fn unlike_total(total: Total, sum: u64) -> bool
+pub fn unlike_total(total: Option<u64>, sum: u64) -> bool
     ensures { result ≡ unlike_total (total_told total) sum }
 {
     match total {
-        Total::Unknown => false,
-        Total::Known(t) => {
+        None => false,
+        Some(t) => {
             if sum == t {
                 return false;
             }

@@ -1,5 +1,6 @@
 -- No two outcomes satisfy the contract of a public call of this crate: `standing_told s` has an inverse for every input, and an object is its two fields.
 -- Assumes nothing.
+use Rattle.std.specs.Prelude.{Err, Ok, Result}
 use mathlib.Core.Path.{◌≡◌, refl, ap, sym, ◌∙◌}
 use mathlib.Core.List.{List, []}
 use Prim.Native.Nat.{ℕ}
@@ -10,19 +11,18 @@ use Rattle.format.proofs.Decided.{Undoes, decided}
 use Rattle.wire.proofs.Decided.{refusal_back, refusal_undoes}
 use Rattle.plp.specs.declared.Walk.{Walk}
 use Rattle.plp.proofs.Decided.{walk_back, walk_undoes}
-use Rattle.plp_walk.specs.declared.Said.{Said}
-use Rattle.plp_walk.specs.declared.Said.TheVariants as S
 use Rattle.plp_walk.specs.declared.Standing.{Standing}
 use Rattle.plp_walk.specs.declared.WalkObject.{WalkObject}
 use Rattle.plp_walk.specs.Told.{said_told, standing_told, object_told}
+use Rattle.wire.specs.declared.Refusal.{Refusal}
 
-abbrev said_back : Answer ℕ → Said
-said_back (gives k) = S.Took k
-said_back (refuses e) = S.Refused (refusal_back e)
+abbrev said_back : Answer ℕ → Result ℕ Refusal
+said_back (gives k) = Ok k
+said_back (refuses e) = Err (refusal_back e)
 
 said_undoes : Undoes said_told said_back
-said_undoes (S.Took k) = refl
-said_undoes (S.Refused e) = ap S.Refused (refusal_undoes e)
+said_undoes (Ok k) = refl
+said_undoes (Err e) = ap Err (refusal_undoes e)
 
 abbrev standing_back : P.WalkObject → Standing
 standing_back o = record { walk = walk_back o.walk; said = said_back o.said }

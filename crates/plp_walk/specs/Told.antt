@@ -1,17 +1,17 @@
 -- What this crate's declared types tell, in the words of `format`.
+use Rattle.std.specs.Prelude.{Err, Ok, Result}
 use Rattle.std.specs.Prelude.{ℕ, List}
 use Rattle.format.specs.Answer.{Answer, gives, refuses}
 use Rattle.format.specs.Plp as P
 use Rattle.wire.specs.Told.{refusal_told}
 use Rattle.plp.specs.Told.{walk_told}
-use Rattle.plp_walk.specs.declared.Said.{Said}
-use Rattle.plp_walk.specs.declared.Said.TheVariants as S
 use Rattle.plp_walk.specs.declared.Standing.{Standing}
 use Rattle.plp_walk.specs.declared.WalkObject.{WalkObject}
+use Rattle.wire.specs.declared.Refusal.{Refusal}
 
-abbrev pub said_told : Said → Answer ℕ
-said_told (S.Took k) = gives k
-said_told (S.Refused e) = refuses (refusal_told e)
+abbrev pub said_told : Result ℕ Refusal → Answer ℕ
+said_told (Ok k) = gives k
+said_told (Err e) = refuses (refusal_told e)
 
 -- where a walk stands, over an input; and the object, which holds both
 abbrev pub standing_told : List ℕ → Standing → P.WalkObject

@@ -8,21 +8,14 @@ ghost use Rattle.format.specs.Plp.{made_of, stepped};
 ghost use Rattle.plp.specs.Told.{walk_told};
 ghost use Rattle.plp_walk.specs.Told.{standing_told, object_told};
 
-use plp::{Walk, Walked};
+use plp::Walk;
 use wire::Refusal;
-
-// What a step reported: how many heads it took, or why it changed nothing.
-#[derive(Clone, Copy)]
-pub enum Said {
-    Took(u64),
-    Refused(Refusal),
-}
 
 // Where a walk stands, and what its last step reported.
 #[derive(Clone, Copy)]
 pub struct Standing {
     pub walk: Walk,
-    pub said: Said,
+    pub said: Result<u64, Refusal>,
 }
 
 #[derive(Clone, Copy)]
@@ -35,10 +28,7 @@ pub struct WalkObject<'a> {
 pub fn at_rest(walk: Walk) -> Standing
     ensures { (s : List ℕ) → standing_told s result ≡ made_of s (walk_told walk) }
 {
-    Standing {
-        walk,
-        said: Said::Took(0),
-    }
+    Standing { walk, said: Ok(0) }
 }
 
 // As many heads as are allowed, from where the walk stands. A refusal leaves it there.
@@ -46,20 +36,12 @@ pub fn step_on(s: &[u8], from: Standing, allowed: u64) -> Standing
     ensures { standing_told s.now result ≡ stepped allowed (standing_told s.now from) }
 {
     let walk = from.walk;
-    let walked = plp::walk_chunks(s, walk, allowed);
-    match walked {
-        Walked::Walked(x, taken) => {
-            Standing {
-                walk: x,
-                said: Said::Took(taken),
-            }
-        }
-        Walked::Refused(e) => {
-            Standing {
-                walk,
-                said: Said::Refused(e),
-            }
-        }
+    match plp::walk_chunks(s, walk, allowed) {
+        Ok((x, taken)) => Standing {
+            walk: x,
+            said: Ok(taken),
+        },
+        Err(e) => Standing { walk, said: Err(e) },
     }
 }
 

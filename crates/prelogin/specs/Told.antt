@@ -1,8 +1,11 @@
 -- What this crate's declared types tell, in the words of `format`, and the message's parts as the code stores them.
-use Rattle.std.specs.Prelude.{ℕ, ◌+◌, List, [], ◌∷◌, ◌++◌}
+use Rattle.std.specs.Prelude.{ℕ, ◌+◌, List, [], ◌∷◌, ◌++◌, Result, Ok, Err}
 use Rattle.lists.specs.Pick.{pick}
 use Rattle.format.specs.Number.{high_bytes}
 use Rattle.format.specs.Prelogin as P
+use Rattle.format.specs.Answer.{Answer, gives, refuses}
+use Rattle.wire.specs.Told.{refusal_told}
+use Rattle.wire.specs.declared.Refusal.{Refusal}
 use Rattle.prelogin.specs.declared.Encryption.{Encryption}
 use Rattle.prelogin.specs.declared.Encryption.TheVariants as E
 use Rattle.prelogin.specs.declared.Prelogin.{Prelogin}
@@ -13,6 +16,11 @@ encryption_number E.Off = 0
 encryption_number E.On = 1
 encryption_number E.NotSupported = 2
 encryption_number E.Required = 3
+
+-- ENCRYPTION of a byte, or refusal 2
+abbrev pub encryption_told : Result Encryption Refusal → Answer ℕ
+encryption_told (Ok e) = gives (encryption_number e)
+encryption_told (Err e) = refuses (refusal_told e)
 
 abbrev pub prelogin_told : Prelogin → P.Prelogin
 prelogin_told p =

@@ -7,18 +7,18 @@ ghost use Rattle.std.proofs.lemmas.List.Edits.{sets};
 ghost use Rattle.lists.specs.Pick.{pick};
 ghost use Rattle.format.specs.Answer.{fitted, wrote, room_after};
 ghost use Rattle.format.specs.Prelogin.{write_prelogin};
-ghost use Rattle.wire.specs.Told.{wrote_told};
-ghost use Rattle.prelogin.specs.Told.{encryption_number, prelogin_told, entry_bytes, table_bytes, data_bytes};
+ghost use Rattle.wire.specs.Told.{answer_told};
+ghost use Rattle.prelogin.specs.Told.{prelogin_told, entry_bytes, table_bytes, data_bytes};
 
-use wire::{Refusal, Wrote, inner};
+use wire::{Refusal, inner};
 
 // ENCRYPT_OFF, ENCRYPT_ON, ENCRYPT_NOT_SUP and ENCRYPT_REQ.
-#[derive(Clone, Copy)]
+#[derive(Clone, Copy, Debug, PartialEq, Eq)]
 pub enum Encryption {
-    Off,
-    On,
-    NotSupported,
-    Required,
+    Off = 0,
+    On = 1,
+    NotSupported = 2,
+    Required = 3,
 }
 
 #[derive(Clone, Copy)]
@@ -58,14 +58,34 @@ const FED_LAST: usize = FED_START + DATA;
 const FED_SIZE: usize = FED_LAST + 1;
 
 // ENCRYPTION's byte.
-fn encryption_byte(e: Encryption) -> u8
-    ensures { result ≡ encryption_number e }
-{
-    match e {
-        Encryption::Off => 0,
-        Encryption::On => 1,
-        Encryption::NotSupported => 2,
-        Encryption::Required => 3,
+impl From<Encryption> for u8 {
+    ghost use Rattle.prelogin.specs.Told.{encryption_number};
+
+    ghost from_gives = { λ e b. b ≡ encryption_number e };
+
+    fn from(e: Encryption) -> u8 {
+        e as u8
+    }
+}
+
+// ENCRYPTION of its byte.
+impl TryFrom<u8> for Encryption {
+    ghost use Rattle.std.specs.Prelude.{ltb};
+    ghost use Rattle.format.specs.Answer.{unknown, gives, refuse_if};
+    ghost use Rattle.prelogin.specs.Told.{encryption_told};
+
+    type Error = Refusal;
+
+    ghost try_from_gives = { λ b r. encryption_told r ≡ refuse_if (ltb 3 b) unknown (gives b) };
+
+    fn try_from(b: u8) -> Result<Encryption, Refusal> {
+        match b {
+            0 => Ok(Encryption::Off),
+            1 => Ok(Encryption::On),
+            2 => Ok(Encryption::NotSupported),
+            3 => Ok(Encryption::Required),
+            _ => Err(Refusal::Unknown),
+        }
     }
 }
 
@@ -106,32 +126,32 @@ fn put_data(out: &mut [u8], at: usize, p: Prelogin)
     let mars = p.mars;
     inner::put_high(out, at, p.version as u64, 4);
     inner::put_high(out, at + 4, p.sub_build as u64, 2);
-    inner::put_byte(out, at + 6, encryption_byte(encryption));
+    inner::put_byte(out, at + 6, u8::from(encryption));
     inner::put_high(out, at + 7, p.thread_id as u64, 4);
     inner::put_byte(out, at + 11, truth_byte(mars));
 }
 
 // The message with FEDAUTHREQUIRED, and without.
-pub fn write_prelogin(p: Prelogin, out: &mut [u8]) -> Wrote
-    ensures answer { wrote_told result ≡ wrote (fitted (write_prelogin (prelogin_told p)) (length out.old)) }
+pub fn write_prelogin(p: Prelogin, out: &mut [u8]) -> Result<usize, Refusal>
+    ensures answer { answer_told result ≡ wrote (fitted (write_prelogin (prelogin_told p)) (length out.old)) }
     ensures room { out.new ≡ room_after (fitted (write_prelogin (prelogin_told p)) (length out.old)) out.old }
 {
     if p.fed_auth_required {
         if out.len() < FED_SIZE {
-            return Wrote::Refused(Refusal::Room);
+            return Err(Refusal::Room);
         }
         put_table(out, FED_START as u64);
         put_entry(out, FIFTH, 6, FED_LAST as u64, 1);
         inner::put_byte(out, FED_END, 0xFF);
         put_data(out, FED_START, p);
         inner::put_byte(out, FED_LAST, 1);
-        return Wrote::Bytes(FED_SIZE);
+        return Ok(FED_SIZE);
     }
     if out.len() < SIZE {
-        return Wrote::Refused(Refusal::Room);
+        return Err(Refusal::Room);
     }
     put_table(out, START as u64);
     inner::put_byte(out, END, 0xFF);
     put_data(out, START, p);
-    Wrote::Bytes(SIZE)
+    Ok(SIZE)
 }

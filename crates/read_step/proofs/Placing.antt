@@ -1,10 +1,10 @@
 -- One value's content into the room, behind what was copied before. The value is known to be there and its content to fit, so that nothing is refused.
 -- Why it holds: the reader of a value behind a place leaves the room up to what was copied, and puts the content there; what it found says how many bytes.
 -- Assumes nothing.
+use Rattle.std.specs.Prelude.{Option}
 use mathlib.Core.Path.{◌≡◌, refl, sym, ap, ◌∙◌}
 use mathlib.Core.Bool.{Bool, true, false, not}
 use mathlib.Core.List.{List, [], ◌++◌}
-use mathlib.Core.Option.{Option}
 use Prim.Native.Nat.{ℕ, ◌+◌, ◌-◌, ◌≤◌}
 use native.Mathlib.Omega.{arith}
 use lib.Dec.{ltb}

@@ -10,43 +10,38 @@ ghost use Rattle.judge_step.specs.Told.{row_judged_told};
 ghost use Rattle.read_step.specs.Told.{first_place, place_told, row_read_told};
 ghost use Rattle.read_step.specs.Steps.{fit_in, turns_of, in_room, room_count, FitsAt, copied_in, place_behind};
 
-use crate::RowRead;
 use column_type::Column;
 use cursor::Cursor;
-use judge_step::RowJudged;
-use row_place::{RowPlace, RowValue};
-use value_found::{Found, Stand, ValueRead, inner};
+use judge_step::RowNeeds;
+use row_place::RowPlace;
+use value_found::{Found, Stand, inner};
 use value_kind::family;
 use wire::Refusal;
 
 // Between the passes: is there room for what reading the row copies out?
-pub fn fit_in(judged: RowJudged, room: usize) -> RowJudged
+pub fn fit_in(judged: Result<RowNeeds, Refusal>, room: usize) -> Result<RowNeeds, Refusal>
     ensures { row_judged_told result ≡ fit_in (row_judged_told judged) room }
 {
-    match judged {
-        RowJudged::Row(row) => {
-            if room < row.joined {
-                return RowJudged::Refused(Refusal::Room);
-            }
-            RowJudged::Row(row)
-        }
-        RowJudged::Refused(earlier) => RowJudged::Refused(earlier),
+    let row = judged?;
+    if room < row.joined {
+        return Err(Refusal::Room);
     }
+    Ok(row)
 }
 
 // How many turns the second pass has: none where the row was refused, and none where nothing is
 // copied out.
-pub fn turns(judged: RowJudged, columns: usize) -> usize
+pub fn turns(judged: Result<RowNeeds, Refusal>, columns: usize) -> usize
     ensures { result ≡ turns_of (row_judged_told judged) columns }
 {
     match judged {
-        RowJudged::Row(row) => {
+        Ok(row) => {
             if row.joined == 0 {
                 return 0;
             }
             columns
         }
-        RowJudged::Refused(_) => 0,
+        Err(_) => 0,
     }
 }
 
@@ -58,16 +53,14 @@ pub fn first(cursor: Cursor) -> RowPlace
 }
 
 // The answer, from what was judged and found to fit.
-pub fn answer(judged: RowJudged, cursor: Cursor) -> RowRead
+pub fn answer(
+    judged: Result<RowNeeds, Refusal>,
+    cursor: Cursor,
+) -> Result<(RowPlace, Cursor), Refusal>
     ensures { row_read_told result ≡ map_read (λ n. first_place cursor.at) (row_judged_told judged) }
 {
-    match judged {
-        RowJudged::Row(row) => {
-            let next = row.next;
-            RowRead::Row(first(cursor), next)
-        }
-        RowJudged::Refused(e) => RowRead::Refused(e),
-    }
+    let needs = judged?;
+    Ok((first(cursor), needs.next))
 }
 
 // How many bytes of the room a part has.
@@ -94,7 +87,12 @@ fn copied_of(found: Found) -> usize
 
 // The value of a column, its PLP content put into the room behind what was copied before, and the
 // next place. The row was judged before, so that nothing is refused.
-pub fn take_on(out: &mut [u8], c: Column, s: &[u8], place: RowPlace) -> RowValue
+pub fn take_on(
+    out: &mut [u8],
+    c: Column,
+    s: &[u8],
+    place: RowPlace,
+) -> Result<(Found, RowPlace), Refusal>
     requires { (b : List ℕ) → FitsAt (column_told b c) (read_at (read_value (column_told b c)) s.now place.cursor.at) place.copied (length out.old) }
     ensures told { (b : List ℕ) → row_value_told result ≡ map_read (placed_of (column_told b c) place.cursor.at place.copied) (read_at (read_value (column_told b c)) s.now place.cursor.at) }
     ensures canonical { CanonicalPlaced result }
@@ -103,26 +101,21 @@ pub fn take_on(out: &mut [u8], c: Column, s: &[u8], place: RowPlace) -> RowValue
     let at = place.cursor.at;
     let copied = place.copied;
     let ty = c.ty;
-    let read = inner::read_in(
+    let (found, next) = inner::read_in(
         family::family_of(ty),
         c.length as u32,
         &s[at..],
         at,
         copied,
         out,
-    );
-    match read {
-        ValueRead::Value(found, next) => {
-            RowValue::Value(
-                found,
-                RowPlace {
-                    cursor: Cursor { at: next.at },
-                    copied: copied + copied_of(found),
-                },
-            )
-        }
-        ValueRead::Refused(e) => RowValue::Refused(e),
-    }
+    )?;
+    Ok((
+        found,
+        RowPlace {
+            cursor: Cursor { at: next.at },
+            copied: copied + copied_of(found),
+        },
+    ))
 }
 
 // One value more: only its content is wanted, and the next place.
@@ -131,9 +124,8 @@ pub fn join_on(out: &mut [u8], c: Column, s: &[u8], place: RowPlace) -> RowPlace
     ensures { (b : List ℕ) → (place_told result ≡ place_behind (column_told b c) (read_at (read_value (column_told b c)) s.now place.cursor.at) (place_told place))
         × (out.new ≡ put_at out.old place.copied (copied_in (column_told b c) (read_at (read_value (column_told b c)) s.now place.cursor.at))) }
 {
-    let taken = take_on(out, c, s, place);
-    match taken {
-        RowValue::Value(_, next) => next,
-        RowValue::Refused(_) => place,
+    match take_on(out, c, s, place) {
+        Ok((_, next)) => next,
+        Err(_) => place,
     }
 }

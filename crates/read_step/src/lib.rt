@@ -8,10 +8,3 @@ pub mod inner;
 use cursor::Cursor;
 use row_place::RowPlace;
 use wire::Refusal;
-
-// A row that was read: its first value's place, and where the row ends; or why there is none.
-#[derive(Clone, Copy)]
-pub enum RowRead {
-    Row(RowPlace, Cursor),
-    Refused(Refusal),
-}

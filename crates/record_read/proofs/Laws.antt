@@ -13,7 +13,6 @@ use Rattle.format.specs.Descriptor.{FixedLen, ByteLen, UShortLen, fixed_len, byt
 use Rattle.format.specs.Descriptor.{plain, with_scale, with_sort, read_column}
 use Rattle.format.proofs.DescriptorForm.{type_byte_lem}
 use Rattle.packed.specs.Packed.{record_of}
-use Rattle.record_read.specs.declared.Fields.{Fields}
 use Rattle.record_read.specs.Told.{bare, with_digits, with_text, record_made, IsRead}
 
 -- a size of 0 promises nothing

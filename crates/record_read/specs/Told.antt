@@ -1,6 +1,5 @@
 -- What the fields of a descriptor of a common form promise, and the record that they make.
-use Rattle.std.specs.Prelude.{ℕ, ◌/◌, ◌%◌, ◌<◌, ◌≤◌, ◌≡◌, List, [], ◌∷◌, length, get_or}
-use Rattle.std.proofs.Math.Option.{none}
+use Rattle.std.specs.Prelude.{ℕ, ◌/◌, ◌%◌, ◌<◌, ◌≤◌, ◌≡◌, List, [], ◌∷◌, length, get_or, None}
 use Rattle.format.specs.Answer.{took}
 use Rattle.format.specs.Descriptor.{Column, read_column}
 use Rattle.column_form.specs.Form.{IsForm}
@@ -59,4 +58,4 @@ record_made f =
 abbrev pub IsRead : List ℕ → Fields → Type 0
 IsRead s f =
     0 < f.size →
-    (f.size ≤ length s) × (c : Column) × (read_column s ≡ took c f.size) × (c.schema ≡ none) × ((index : ℕ) → record_made f ≡ record_of c index)
+    (f.size ≤ length s) × (c : Column) × (read_column s ≡ took c f.size) × (c.schema ≡ None) × ((index : ℕ) → record_made f ≡ record_of c index)

@@ -1,9 +1,9 @@
 -- The column of a record that has one of the common forms, and so its descriptor's bytes.
 -- Assumes nothing.
+use Rattle.std.specs.Prelude.{None, Some}
 use mathlib.Core.Path.{◌≡◌, refl, sym, ap, subst, ◌∙◌}
 use mathlib.Core.Bool.{true, false}
 use mathlib.Core.List.{List, [], ◌∷◌, ◌++◌, append-nil}
-use mathlib.Core.Option.{none, some}
 use Prim.Native.Nat.{ℕ, zero, suc, ◌+◌, ◌*◌, ◌^◌, ◌<◌, ◌≤◌}
 use native.Mathlib.Omega.{arith}
 use lib.Dec.{eqb, ltb}
@@ -13,11 +13,11 @@ use borrow.Author.Tests.{le-leb, lt-ltb, le-ltb, ne_eqb}
 use Rattle.lists.proofs.Front.{sets-front}
 use Rattle.format.specs.Answer.{Answer, gives}
 use Rattle.format.specs.Number.{low_nat, low_bytes}
-use Rattle.format.specs.Descriptor.{TypeId, FixedLen, fixed_len, type_of, type_byte, has_digits, has_collation, Collation, Schema, write_column}
+use Rattle.format.specs.Descriptor.{TypeId, FixedLen, fixed_len, type_of, has_digits, has_collation, Collation, Schema, write_column}
 use Rattle.format.proofs.DescriptorForm.{Form, column, form-written, type_byte_lem}
 use Rattle.wire.proofs.Writing.{Leaves, has_room}
 use Rattle.packed.specs.Packed.{info_at, keeps_places, column_of}
-use Rattle.record_write.specs.Told.{length_at, head_at, tail_at, IsBare, IsDigits, IsText, Done, Written}
+use Rattle.record_write.specs.Told.{length_at, head_at, tail_at, IsBare, IsText, Written}
 
 -- ---- a record of 16 bytes, byte by byte
 
@@ -91,14 +91,14 @@ collated r l = sixteen Collated go r l
 -- ---- its column
 
 module _ (r : List ℕ) (names : Schema) (t : TypeId) (e : type_of (get_or r 0 0) ≡ gives t) (k : keeps_places r ≡ true) where
-  unflagged_column : get_or r 1 0 ≡ 0 → column_of r names ≡ column t (length_at r) (get_or r 2 0) (get_or r 3 0) none none
+  unflagged_column : get_or r 1 0 ≡ 0 → column_of r names ≡ column t (length_at r) (get_or r 2 0) (get_or r 3 0) None None
   unfolding column_of
   unflagged_column f = rw (k, e, f)
 
   abbrev collation : Collation
   collation = record { info = info_at r; sort = get_or r 12 0 }
 
-  collated_column : get_or r 1 0 ≡ 1 → column_of r names ≡ column t (length_at r) (get_or r 2 0) (get_or r 3 0) (some collation) none
+  collated_column : get_or r 1 0 ≡ 1 → column_of r names ≡ column t (length_at r) (get_or r 2 0) (get_or r 3 0) (Some collation) None
   unfolding column_of
   collated_column f = rw (k, e, f)
 
@@ -118,7 +118,7 @@ module _ (r : List ℕ) (l : 16 ≤ length r) (t : TypeId) (e : type_of (get_or 
   bare-written d c b names =
       let h = head 0 (omega arith) r l b.0 in
       let is = unflagged_column r names t e (unflagged r l l h.0 b.1) h.0 in
-      let wr = form-written t w f (length_at r) (get_or r 2 0) (get_or r 3 0) none b.2 (rw (d, h.1, h.2)) (rw c) in
+      let wr = form-written t w f (length_at r) (get_or r 2 0) (get_or r 3 0) None b.2 (rw (d, h.1, h.2)) (rw c) in
       ap write_column is ∙ (wr ∙ rw (d, type_byte_lem (get_or r 0 0) t e, append-nil (low_bytes w (length_at r))))
 
   pub digits_written : has_digits t ≡ true → has_collation t ≡ false → get_or r 1 0 ≡ 0 → tail_at r ≡ 0 → length_at r < 256 ^ w →
@@ -126,7 +126,7 @@ module _ (r : List ℕ) (l : 16 ≤ length r) (t : TypeId) (e : type_of (get_or 
       → write_column (column_of r names) ≡ gives (get_or r 0 0 ∷ (low_bytes w (length_at r) ++ (get_or r 2 0 ∷ get_or r 3 0 ∷ [])))
   digits_written d c g z n p x names =
       let is = unflagged_column r names t e (unflagged r l l g z) g in
-      let wr = form-written t w f (length_at r) (get_or r 2 0) (get_or r 3 0) none n (rw (d, lt-ltb (get_or r 2 0) 256 p, lt-ltb (get_or r 3 0) 256 x))
+      let wr = form-written t w f (length_at r) (get_or r 2 0) (get_or r 3 0) None n (rw (d, lt-ltb (get_or r 2 0) 256 p, lt-ltb (get_or r 3 0) 256 x))
       (rw c) in
       ap write_column is ∙ (wr ∙ rw (d, type_byte_lem (get_or r 0 0) t e))
 
@@ -137,7 +137,7 @@ module _ (r : List ℕ) (l : 16 ≤ length r) (t : TypeId) (e : type_of (get_or 
       let h = head 1 (omega arith) r l b.0 in
       let k = collated r l l h.0 b.1 in
       let is = collated_column r names t e k h.0 in
-      let wr = form-written t w f (length_at r) (get_or r 2 0) (get_or r 3 0) (some (collation r names t e k)) n (rw (d, h.1, h.2))
+      let wr = form-written t w f (length_at r) (get_or r 2 0) (get_or r 3 0) (Some (collation r names t e k)) n (rw (d, h.1, h.2))
       (rw (c, lt-ltb (info_at r) (256 ^ 4) i, lt-ltb (get_or r 12 0) 256 s)) in
       ap write_column is ∙ (wr ∙ rw (d, type_byte_lem (get_or r 0 0) t e))
 

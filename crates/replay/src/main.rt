@@ -4,14 +4,14 @@
 
 use std::io;
 use std::io::Read;
-use wire::{Cursor, NumberRead, Width};
+use wire::{Cursor, Refusal, Width};
 
 // How many bytes the next frame has; none where the input has ended.
-fn next_count(input: &mut impl Read) -> io::Result<NumberRead> {
+fn next_count(input: &mut impl Read) -> io::Result<Result<(u64, Cursor), Refusal>> {
     let mut head = [0u8; 4];
     let got = words::read_full(input, &mut head)?;
     if got < 4 {
-        return Ok(NumberRead::Refused(wire::Refusal::Missing));
+        return Ok(Err(wire::Refusal::Missing));
     }
     Ok(Cursor { at: 0 }.low(&head, Width::Four))
 }
@@ -38,7 +38,7 @@ fn one(
     frame: &mut [u8],
     room: &mut [u8],
 ) -> io::Result<bool> {
-    let NumberRead::Number(count, _) = next_count(input)? else {
+    let Ok((count, _)) = next_count(input)? else {
         return Ok(false);
     };
     let n = count as usize;
@@ -48,17 +48,18 @@ fn one(
     filled(rt, input, &mut frame[..n], room)
 }
 
-// A proved loop has to end, and nothing says that an input does: it counts down from a number that
-// no run uses up.
+// A proved loop has to end, and nothing says that an input does: it counts up to a number that
+// no run comes to.
 fn run(
     rt: &impl Print,
     input: &mut impl Read,
     frame: &mut [u8],
     room: &mut [u8],
 ) -> io::Result<()> {
-    let mut turns = u64::MAX;
-    while turns > 0 && one(rt, input, frame, room)? {
-        turns -= 1;
+    for _ in 0..u64::MAX {
+        if !one(rt, input, frame, room)? {
+            break;
+        }
     }
     Ok(())
 }

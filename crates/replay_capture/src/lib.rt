@@ -2,12 +2,11 @@
 
 #![tactic(auto)]
 
-use capture_columns::ColumnsEnd;
 use cursor::Cursor;
 use replay_row_read::say_row;
 use replay_say::{fields, say};
 use std::io;
-use wire::{NumberRead, Width, Wrote};
+use wire::Width;
 
 // That many descriptors, one after another, and the row behind them.
 fn listed(
@@ -17,12 +16,17 @@ fn listed(
     from: wire::Cursor,
     room: &mut [u8],
 ) -> io::Result<()> {
-    let columns = capture_columns::read_columns(s, from, count);
-    let list = columns.list;
-    let end = columns.end;
-    match end {
-        ColumnsEnd::End(at) => say_row(rt, list, count, s, Cursor { at: at.at }, true, room),
-        ColumnsEnd::Refused(e, _, _) => say::wrote(rt, Wrote::Refused(e), room),
+    match capture_columns::read_columns(s, from, count) {
+        Ok(columns) => say_row(
+            rt,
+            columns.list,
+            count,
+            s,
+            Cursor { at: columns.end.at },
+            true,
+            room,
+        ),
+        Err(e) => say::wrote(rt, Err(e.refusal), room),
     }
 }
 
@@ -31,7 +35,7 @@ pub fn capture(rt: &impl Print, frame: &[u8], room: &mut [u8]) -> io::Result<()>
     let start = wire::Cursor { at: 0 };
     say::fill(room);
     match start.low(s, Width::Two) {
-        NumberRead::Number(n, from) => listed(rt, n as usize, s, from, room),
-        NumberRead::Refused(e) => say::wrote(rt, Wrote::Refused(e), room),
+        Ok((n, from)) => listed(rt, n as usize, s, from, room),
+        Err(e) => say::wrote(rt, Err(e), room),
     }
 }

@@ -46,12 +46,9 @@ pub fn columns(frame: &[u8], at: usize) -> [Column; 1024] {
     let mut cols = [none; 1024];
     let n = placed(count(frame, at));
     let mut from = fields::after(at, 2);
-    let mut i: usize = 0;
-    while i < n {
-        let c = replay_type::column(frame, from);
-        cols[i] = c;
+    for i in 0..n {
+        cols[i] = replay_type::column(frame, from);
         from = fields::after(from, 66);
-        i += 1;
     }
     cols
 }
@@ -61,12 +58,9 @@ pub fn values(frame: &[u8], at: usize) -> [Value; 1024] {
     let mut values = [Value::Null; 1024];
     let n = placed(count(frame, at));
     let mut from = fields::after(at, 2);
-    let mut i: usize = 0;
-    while i < n {
-        let v = replay_value::value(frame, from);
-        values[i] = v;
+    for i in 0..n {
+        values[i] = replay_value::value(frame, from);
         from = fields::after(from, 17);
-        i += 1;
     }
     values
 }
@@ -74,11 +68,8 @@ pub fn values(frame: &[u8], at: usize) -> [Value; 1024] {
 // The fourteen numbers of each column.
 pub fn show_columns(rt: &impl Print, cols: [Column; 1024], count: usize) -> io::Result<()> {
     let n = placed(count);
-    let mut i: usize = 0;
-    while i < n {
-        let c = cols[i];
-        replay_type::show(rt, c)?;
-        i += 1;
+    for i in 0..n {
+        replay_type::show(rt, cols[i])?;
     }
     Ok(())
 }

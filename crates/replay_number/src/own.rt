@@ -1,13 +1,13 @@
 // The ops that are the project's own: guid_read, self_test.
 use replay_say::{fields, say};
 use std::io;
-use wire::{GuidRead, Refusal, Width, Wrote};
+use wire::{Refusal, Width};
 
 // A GUID at a place of the input, said in text order.
 pub fn guid_read(rt: &impl Print, frame: &[u8]) -> io::Result<()> {
     let from = fields::place(frame, 1);
     match from.guid(fields::rest(frame, 13)) {
-        GuidRead::Guid(g, c) => {
+        Ok((g, c)) => {
             let mut out = [0u8; 16];
             wire::inner::put_high(&mut out, 0, g.high, 8);
             wire::inner::put_high(&mut out, 8, g.low, 8);
@@ -16,7 +16,7 @@ pub fn guid_read(rt: &impl Print, frame: &[u8]) -> io::Result<()> {
             say::bytes(rt, &out)?;
             say::end(rt)
         }
-        GuidRead::Refused(e) => {
+        Err(e) => {
             say::no(rt, e)?;
             say::end(rt)
         }
@@ -24,18 +24,18 @@ pub fn guid_read(rt: &impl Print, frame: &[u8]) -> io::Result<()> {
 }
 
 // An answer that no call gave: a count, or the refusal of a number.
-fn made_up(no: u8, count: usize) -> Wrote {
+fn made_up(no: u8, count: usize) -> Result<usize, Refusal> {
     match no {
-        0 => Wrote::Bytes(count),
-        1 => Wrote::Refused(Refusal::Missing),
-        2 => Wrote::Refused(Refusal::Unknown),
-        3 => Wrote::Refused(Refusal::Kind),
-        4 => Wrote::Refused(Refusal::Room),
-        5 => Wrote::Refused(Refusal::Long),
-        6 => Wrote::Refused(Refusal::Rule),
-        7 => Wrote::Refused(Refusal::NotCarried),
-        8 => Wrote::Refused(Refusal::Sequence),
-        _ => Wrote::Refused(Refusal::NotText),
+        0 => Ok(count),
+        1 => Err(Refusal::Missing),
+        2 => Err(Refusal::Unknown),
+        3 => Err(Refusal::Kind),
+        4 => Err(Refusal::Room),
+        5 => Err(Refusal::Long),
+        6 => Err(Refusal::Rule),
+        7 => Err(Refusal::NotCarried),
+        8 => Err(Refusal::Sequence),
+        _ => Err(Refusal::NotText),
     }
 }
 

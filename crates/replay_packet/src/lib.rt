@@ -2,7 +2,7 @@
 
 #![tactic(auto)]
 
-use header::{Header, HeaderRead, StatusRead, TypeRead};
+use header::{Header, PacketStatus, PacketType};
 use prelogin::{Encryption, Prelogin};
 use replay_say::{fields, say};
 use std::io;
@@ -11,13 +11,13 @@ use wire::Width;
 pub fn header_read(rt: &impl Print, frame: &[u8]) -> io::Result<()> {
     let from = fields::place(frame, 1);
     match header::read_header(fields::rest(frame, 13), from) {
-        HeaderRead::Header(h, c) => {
+        Ok((h, c)) => {
             say::ok(rt)?;
             say::number(rt, c.at as u64)?;
             shown(rt, h)?;
             say::end(rt)
         }
-        HeaderRead::Refused(e) => {
+        Err(e) => {
             say::no(rt, e)?;
             say::end(rt)
         }
@@ -27,8 +27,8 @@ pub fn header_read(rt: &impl Print, frame: &[u8]) -> io::Result<()> {
 fn shown(rt: &impl Print, h: Header) -> io::Result<()> {
     let ty = h.ty;
     let status = h.status;
-    say::number(rt, header::type_byte(ty) as u64)?;
-    say::number(rt, header::status_byte(status) as u64)?;
+    say::number(rt, u64::from(u8::from(ty)))?;
+    say::number(rt, u64::from(u8::from(status)))?;
     say::number(rt, h.length as u64)?;
     say::number(rt, h.spid as u64)?;
     say::number(rt, h.id as u64)?;
@@ -36,10 +36,10 @@ fn shown(rt: &impl Print, h: Header) -> io::Result<()> {
 }
 
 pub fn header_write(rt: &impl Print, frame: &[u8], room: &mut [u8]) -> io::Result<()> {
-    let TypeRead::Type(ty) = header::type_of(fields::byte(frame, 5)) else {
+    let Ok(ty) = PacketType::try_from(fields::byte(frame, 5)) else {
         return say::bad(rt);
     };
-    let StatusRead::Status(status) = header::status_of(fields::byte(frame, 6)) else {
+    let Ok(status) = PacketStatus::try_from(fields::byte(frame, 6)) else {
         return say::bad(rt);
     };
     let h = Header {
@@ -55,20 +55,11 @@ pub fn header_write(rt: &impl Print, frame: &[u8], room: &mut [u8]) -> io::Resul
     say::wrote(rt, r, room)
 }
 
-fn encryption(n: u8) -> Encryption {
-    match n {
-        0 => Encryption::Off,
-        1 => Encryption::On,
-        2 => Encryption::NotSupported,
-        _ => Encryption::Required,
-    }
-}
-
 pub fn prelogin_write(rt: &impl Print, frame: &[u8], room: &mut [u8]) -> io::Result<()> {
     let p = Prelogin {
         version: (fields::low(frame, 5, Width::Four) % 4294967296) as u32,
         sub_build: (fields::low(frame, 9, Width::Two) % 65536) as u16,
-        encryption: encryption(fields::byte(frame, 11)),
+        encryption: Encryption::try_from(fields::byte(frame, 11)).unwrap_or(Encryption::Required),
         thread_id: (fields::low(frame, 12, Width::Four) % 4294967296) as u32,
         mars: fields::byte(frame, 16) != 0,
         fed_auth_required: fields::byte(frame, 17) != 0,

@@ -2,11 +2,10 @@
 
 #![tactic(auto)]
 
-use cursor::{Cursor, ValueRead};
+use cursor::Cursor;
 use replay_found::{copied, show};
 use replay_say::{fields, say};
 use std::io;
-use wire::Wrote;
 
 // The value of a column at a place of the input.
 pub fn value_read(rt: &impl Print, frame: &[u8], room: &mut [u8]) -> io::Result<()> {
@@ -16,13 +15,13 @@ pub fn value_read(rt: &impl Print, frame: &[u8], room: &mut [u8]) -> io::Result<
     say::fill(room);
     let s = fields::rest(frame, 83);
     match cursor.value(c, s, room) {
-        ValueRead::Value(f, next) => {
+        Ok((f, next)) => {
             say::ok(rt)?;
             say::number(rt, next.at as u64)?;
             show(rt, f, s, room)?;
             say::front(rt, room, copied(f))?;
             say::end(rt)
         }
-        ValueRead::Refused(e) => say::wrote(rt, Wrote::Refused(e), room),
+        Err(e) => say::wrote(rt, Err(e), room),
     }
 }

@@ -3,10 +3,8 @@
 #![tactic(auto)]
 
 use cursor::Cursor;
-use normal_step::Normal;
 use replay_say::{fields, say};
 use std::io;
-use wire::Wrote;
 
 pub fn row_write(rt: &impl Print, frame: &[u8], room: &mut [u8]) -> io::Result<()> {
     let second = replay_list::behind_columns(frame, 5);
@@ -30,12 +28,12 @@ pub fn normal(rt: &impl Print, frame: &[u8], room: &mut [u8]) -> io::Result<()> 
     let from = Cursor { at: at.at };
     say::fill(room);
     match held_normal::normal_held_row(cols, count, s, from, room) {
-        Normal::Bytes(n, next) => {
+        Ok((n, next)) => {
             say::ok(rt)?;
             say::number(rt, next.at as u64)?;
             say::front(rt, room, n)?;
             say::end(rt)
         }
-        Normal::Refused(e) => say::wrote(rt, Wrote::Refused(e), room),
+        Err(e) => say::wrote(rt, Err(e), room),
     }
 }

@@ -4,12 +4,10 @@
 
 use column_type::Column;
 use cursor::Cursor;
-use read_step::RowRead;
 use replay_found::show;
 use replay_say::{fields, say};
-use row_place::{RowPlace, RowValue};
+use row_place::RowPlace;
 use std::io;
-use wire::Wrote;
 
 // The values from a place on, in turn. It hands back how many bytes of the room they take.
 fn show_values(
@@ -22,19 +20,12 @@ fn show_values(
 ) -> io::Result<usize> {
     let n = replay_list::placed(count);
     let mut place = first;
-    let mut i: usize = 0;
-    while i < n {
-        let c = cols[i];
-        match place.value(c, s) {
-            RowValue::Value(found, next) => {
-                show(rt, found, s, room)?;
-                place = next;
-            }
-            RowValue::Refused(_) => {
-                return Ok(place.copied);
-            }
-        }
-        i += 1;
+    for i in 0..n {
+        let Ok((found, next)) = place.value(cols[i], s) else {
+            return Ok(place.copied);
+        };
+        show(rt, found, s, room)?;
+        place = next;
     }
     Ok(place.copied)
 }
@@ -50,7 +41,7 @@ pub fn say_row(
     room: &mut [u8],
 ) -> io::Result<()> {
     match held_read::read_held_row(cols, count, s, from, room) {
-        RowRead::Row(first, next) => {
+        Ok((first, next)) => {
             say::ok(rt)?;
             say::number(rt, next.at as u64)?;
             say::number(rt, count as u64)?;
@@ -61,7 +52,7 @@ pub fn say_row(
             say::front(rt, room, copied)?;
             say::end(rt)
         }
-        RowRead::Refused(e) => say::wrote(rt, Wrote::Refused(e), room),
+        Err(e) => say::wrote(rt, Err(e), room),
     }
 }
 

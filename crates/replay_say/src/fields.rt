@@ -2,12 +2,12 @@
 // end is 0, or no bytes.
 ghost use Rattle.std.specs.Prelude.{◌≤◌, length};
 
-use wire::{ByteRead, Cursor, NumberRead, Width};
+use wire::{Cursor, Width};
 
 pub fn byte(frame: &[u8], at: usize) -> u8 {
     match (Cursor { at }).byte(frame) {
-        ByteRead::Byte(b, _) => b,
-        ByteRead::Refused(_) => 0,
+        Ok((b, _)) => b,
+        Err(_) => 0,
     }
 }
 
@@ -18,8 +18,8 @@ pub fn after(at: usize, n: usize) -> usize {
 
 pub fn low(frame: &[u8], at: usize, w: Width) -> u64 {
     match (Cursor { at }).low(frame, w) {
-        NumberRead::Number(n, _) => n,
-        NumberRead::Refused(_) => 0,
+        Ok((n, _)) => n,
+        Err(_) => 0,
     }
 }
 

@@ -3,7 +3,7 @@ ghost use Rattle.std.specs.Prelude.{◌≡◌, length};
 ghost use Rattle.replay_say.specs.Room.{filled, count_of, changed_in};
 
 use std::io;
-use wire::{Refusal, Wrote};
+use wire::Refusal;
 
 const FILLER: u8 = 0xA5;
 
@@ -44,7 +44,7 @@ pub fn signed(rt: &impl Print, n: u64, half: u64) -> io::Result<()> {
 
 pub fn no(rt: &impl Print, e: Refusal) -> io::Result<()> {
     words::text(rt, b"no")?;
-    number(rt, words::refusal(e))
+    number(rt, u64::from(e.number()))
 }
 
 // A word of bytes, `-` for none.
@@ -61,10 +61,8 @@ pub fn bytes(rt: &impl Print, s: &[u8]) -> io::Result<()> {
 pub fn fill(room: &mut [u8])
     ensures { room.new ≡ filled (length room.old) }
 {
-    let mut i = 0;
-    while i < room.len() {
+    for i in 0..room.len() {
         room[i] = FILLER;
-        i += 1;
     }
 }
 
@@ -83,10 +81,8 @@ fn changed(room: &[u8]) -> u64
     ensures { result ≡ changed_in room.now }
 {
     let mut n: u64 = 0;
-    let mut i = 0;
-    while i < room.len() {
-        n += differs(room[i]);
-        i += 1;
+    for b in room {
+        n += differs(*b);
     }
     n
 }
@@ -107,14 +103,14 @@ pub fn front(rt: &impl Print, room: &[u8], w: usize) -> io::Result<()> {
 }
 
 // What a writer answered, and the room that it was lent.
-pub fn wrote(rt: &impl Print, r: Wrote, room: &[u8]) -> io::Result<()> {
+pub fn wrote(rt: &impl Print, r: Result<usize, Refusal>, room: &[u8]) -> io::Result<()> {
     match r {
-        Wrote::Bytes(w) => {
+        Ok(w) => {
             ok(rt)?;
             front(rt, room, w)?;
             end(rt)
         }
-        Wrote::Refused(e) => {
+        Err(e) => {
             no(rt, e)?;
             kept(rt, room)?;
             end(rt)

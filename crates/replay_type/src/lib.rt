@@ -2,7 +2,7 @@
 
 #![tactic(auto)]
 
-use column_type::{Collation, Column, ColumnRead, Name, Schema, TypeId, TypeRead};
+use column_type::{Collation, Column, Name, Schema, TypeId};
 use replay_say::{fields, say};
 use std::io;
 use wire::Width;
@@ -14,31 +14,35 @@ fn name(frame: &[u8], at: usize) -> Name {
     }
 }
 
-fn schema(frame: &[u8], at: usize) -> Schema {
+fn schema(frame: &[u8], at: usize) -> Option<Schema> {
     if fields::byte(frame, fields::after(at, 17)) == 0 {
-        return Schema::None;
+        return None;
     }
     let first = name(frame, fields::after(at, 18));
     let second = name(frame, fields::after(at, 34));
     let third = name(frame, fields::after(at, 50));
-    Schema::Names(first, second, third)
+    Some(Schema {
+        database: first,
+        owner: second,
+        collection: third,
+    })
 }
 
-fn collation(frame: &[u8], at: usize) -> Collation {
+fn collation(frame: &[u8], at: usize) -> Option<Collation> {
     if fields::byte(frame, fields::after(at, 11)) == 0 {
-        return Collation::None;
+        return None;
     }
     let info = fields::low(frame, fields::after(at, 12), Width::Four);
-    Collation::Of(
-        (info % 4294967296) as u32,
-        fields::byte(frame, fields::after(at, 16)),
-    )
+    Some(Collation {
+        info: (info % 4294967296) as u32,
+        sort: fields::byte(frame, fields::after(at, 16)),
+    })
 }
 
 fn type_id(frame: &[u8], at: usize) -> TypeId {
     match column_byte::type_of(fields::byte(frame, at)) {
-        TypeRead::Type(t) => t,
-        TypeRead::Unknown => TypeId::Udt,
+        Some(t) => t,
+        None => TypeId::Udt,
     }
 }
 
@@ -62,15 +66,21 @@ fn show_name(rt: &impl Print, n: Name) -> io::Result<()> {
     say::number(rt, n.units as u64)
 }
 
-fn show_schema(rt: &impl Print, s: Schema) -> io::Result<()> {
+fn show_schema(rt: &impl Print, s: Option<Schema>) -> io::Result<()> {
     match s {
-        Schema::Names(a, b, c) => {
+        Some(
+            Schema {
+                database: a,
+                owner: b,
+                collection: c,
+            },
+        ) => {
             say::number(rt, 1)?;
             show_name(rt, a)?;
             show_name(rt, b)?;
             show_name(rt, c)
         }
-        Schema::None => {
+        None => {
             let none = Name { start: 0, units: 0 };
             say::number(rt, 0)?;
             show_name(rt, none)?;
@@ -80,14 +90,14 @@ fn show_schema(rt: &impl Print, s: Schema) -> io::Result<()> {
     }
 }
 
-fn show_collation(rt: &impl Print, c: Collation) -> io::Result<()> {
+fn show_collation(rt: &impl Print, c: Option<Collation>) -> io::Result<()> {
     match c {
-        Collation::Of(info, sort) => {
+        Some(Collation { info, sort }) => {
             say::number(rt, 1)?;
             say::number(rt, info as u64)?;
             say::number(rt, sort as u64)
         }
-        Collation::None => {
+        None => {
             say::number(rt, 0)?;
             say::number(rt, 0)?;
             say::number(rt, 0)
@@ -111,13 +121,13 @@ pub fn show(rt: &impl Print, c: Column) -> io::Result<()> {
 pub fn type_read(rt: &impl Print, frame: &[u8]) -> io::Result<()> {
     let from = fields::place(frame, 1);
     match column_read::read_column(fields::rest(frame, 13), from) {
-        ColumnRead::Column(c, next) => {
+        Ok((c, next)) => {
             say::ok(rt)?;
             say::number(rt, next.at as u64)?;
             show(rt, c)?;
             say::end(rt)
         }
-        ColumnRead::Refused(e) => {
+        Err(e) => {
             say::no(rt, e)?;
             say::end(rt)
         }

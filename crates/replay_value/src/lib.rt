@@ -3,16 +3,15 @@
 #![tactic(auto)]
 
 use bits::float;
-use bits::float::{Float32, Float64};
 use replay_say::{fields, say};
 use std::io;
 use value_kind::{Scalar, Span, Value};
-use wire::{Cursor, Guid, NumberRead, Width};
+use wire::{Cursor, Guid, Width};
 
 fn high(frame: &[u8], at: usize) -> u64 {
     match (Cursor { at }).high(frame, Width::Eight) {
-        NumberRead::Number(n, _) => n,
-        NumberRead::Refused(_) => 0,
+        Ok((n, _)) => n,
+        Err(_) => 0,
     }
 }
 
@@ -20,20 +19,6 @@ fn span(frame: &[u8], at: usize) -> Span {
     Span {
         start: fields::low(frame, at, Width::Eight) as usize,
         count: fields::low(frame, fields::after(at, 8), Width::Eight) as usize,
-    }
-}
-
-fn float32(n: u32) -> Scalar {
-    match float::from_bits32(n) {
-        Float32::Value(x) => Scalar::F32(x),
-        Float32::Nan(bits) => Scalar::F32Nan(bits),
-    }
-}
-
-fn float64(n: u64) -> Scalar {
-    match float::from_bits64(n) {
-        Float64::Value(x) => Scalar::F64(x),
-        Float64::Nan(bits) => Scalar::F64Nan(bits),
     }
 }
 
@@ -45,8 +30,8 @@ fn number(kind: u8, n: u64) -> Scalar {
         3 => Scalar::I16(bits::signed::to_i16((n % 65536) as u16)),
         4 => Scalar::I32(bits::signed::to_i32((n % 4294967296) as u32)),
         5 => Scalar::I64(bits::signed::to_i64(n)),
-        6 => float32((n % 4294967296) as u32),
-        _ => float64(n),
+        6 => Scalar::from(float::from_bits32((n % 4294967296) as u32)),
+        _ => Scalar::from(float::from_bits64(n)),
     }
 }
 

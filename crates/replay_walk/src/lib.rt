@@ -2,7 +2,7 @@
 
 #![tactic(auto)]
 
-use plp::{Total, Walk, WalkOpened, Walked};
+use plp::{Opened, Walk};
 use replay_say::{fields, say};
 use std::io;
 use wire::Width;
@@ -11,9 +11,9 @@ use wire::Width;
 fn walk(frame: &[u8], at: usize) -> Walk {
     let known = fields::byte(frame, fields::after(at, 16)) != 0;
     let total = if known {
-        Total::Known(fields::low(frame, fields::after(at, 17), Width::Eight))
+        Some(fields::low(frame, fields::after(at, 17), Width::Eight))
     } else {
-        Total::Unknown
+        None
     };
     Walk {
         at: fields::low(frame, at, Width::Eight) as usize,
@@ -33,13 +33,13 @@ fn show_truth(rt: &impl Print, b: bool) -> io::Result<()> {
 }
 
 // Whether the total is known, and the total, 0 where it is not.
-fn show_total(rt: &impl Print, total: Total) -> io::Result<()> {
+fn show_total(rt: &impl Print, total: Option<u64>) -> io::Result<()> {
     match total {
-        Total::Known(n) => {
+        Some(n) => {
             say::number(rt, 1)?;
             say::number(rt, n)
         }
-        Total::Unknown => {
+        None => {
             say::number(rt, 0)?;
             say::number(rt, 0)
         }
@@ -61,20 +61,20 @@ pub fn walk_open(rt: &impl Print, frame: &[u8]) -> io::Result<()> {
     let from = fields::place(frame, 1);
     let text = fields::byte(frame, 9) != 0;
     match plp::open_walk(fields::rest(frame, 14), from, text) {
-        WalkOpened::Walk(w) => {
+        Ok(Opened::Walk(w)) => {
             say::ok(rt)?;
             say::number(rt, w.at as u64)?;
             say::word(rt, b" walk")?;
             show(rt, w)?;
             say::end(rt)
         }
-        WalkOpened::Null(next) => {
+        Ok(Opened::Null(next)) => {
             say::ok(rt)?;
             say::number(rt, next.at as u64)?;
             say::word(rt, b" null")?;
             say::end(rt)
         }
-        WalkOpened::Refused(e) => {
+        Err(e) => {
             say::no(rt, e)?;
             say::end(rt)
         }
@@ -86,13 +86,13 @@ pub fn walk_on(rt: &impl Print, frame: &[u8]) -> io::Result<()> {
     let w = walk(frame, 1);
     let allowed = fields::low(frame, 28, Width::Eight);
     match plp::walk_chunks(fields::rest(frame, 40), w, allowed) {
-        Walked::Walked(x, taken) => {
+        Ok((x, taken)) => {
             say::ok(rt)?;
             say::number(rt, taken)?;
             show(rt, x)?;
             say::end(rt)
         }
-        Walked::Refused(e) => {
+        Err(e) => {
             say::no(rt, e)?;
             say::end(rt)
         }

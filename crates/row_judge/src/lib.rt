@@ -12,19 +12,18 @@ ghost use Rattle.judge_step.specs.Told.{needs_of, row_judged_told};
 use column_type::Column;
 use columns::inner;
 use cursor::Cursor;
-use judge_step::{RowJudged, inner as turn};
+use judge_step::{RowNeeds, inner as turn};
+use wire::Refusal;
 
 // What the row at the cursor needs, or why it cannot be read.
-pub fn judge_row(cols: &[Column], s: &[u8], cursor: Cursor) -> RowJudged
+pub fn judge_row(cols: &[Column], s: &[u8], cursor: Cursor) -> Result<RowNeeds, Refusal>
     ensures { (b : List ℕ) → row_judged_told result ≡ map_read (needs_of (columns_told b cols.now)) (read_at (read_row (columns_told b cols.now)) s.now cursor.at) }
 {
     let mut state = turn::start(cols.len(), s.len(), cursor);
     let n = turn::turns(state, cols.len());
-    let mut i: usize = 0;
-    while i < n {
+    for i in 0..n {
         let c = inner::column_at(cols, i);
         state = turn::judge_on(c, s, state);
-        i += 1;
     }
     state
 }

@@ -1,6 +1,7 @@
 -- An answer of `normal_row` other than refusal 1 does not change when more bytes follow the input, and neither does the room.
 -- Why it holds: the normal form's definition is steady (`stream_normal` of format), at a place and with a room too.
 -- Assumes nothing.
+use Rattle.std.specs.Prelude.{Result}
 use mathlib.Core.Path.{◌≡◌, ap, ◌∙◌}
 use mathlib.Core.List.{List, ◌++◌}
 use Prim.Native.Nat.{ℕ}
@@ -11,11 +12,12 @@ use Rattle.format.proofs.More.{steady_at, steady_fitted}
 use Rattle.format.proofs.StreamNormal.{stream_normal}
 use Rattle.column_type.specs.declared.Column.{Column}
 use Rattle.columns.specs.Told.{columns_told}
-use Rattle.normal_step.specs.declared.Normal.{Normal}
 use Rattle.normal_step.specs.Told.{normal_told}
 use Rattle.row_normal.proofs.Decided.{normal_of, NormalisesRow, normal_row_decided}
+use Rattle.cursor.specs.declared.Cursor.{Cursor}
+use Rattle.wire.specs.declared.Refusal.{Refusal}
 
-module _ (cols : List Column) (s more : List ℕ) (at : ℕ) (out : List ℕ) (x y : Normal) (a b : List ℕ) where
+module _ (cols : List Column) (s more : List ℕ) (at : ℕ) (out : List ℕ) (x y : Result (ℕ × Cursor) Refusal) (a b : List ℕ) where
   pub more_bytes : NormalisesRow cols s at out x a → NormalisesRow cols (s ++ more) at out y b → (normal_told x ≡ stops missing → ⊥) → (x ≡ y) × (a ≡ b)
   more_bytes p q h = normal_row_decided cols s at out x y a b p (record {
     answer = λ names. q.answer names ∙ ap (map_read length) (same names);

@@ -12,11 +12,17 @@ ghost use Rattle.normal_step.specs.Told.{normal_told};
 use column_type::Column;
 use columns::inner;
 use cursor::Cursor;
-use normal_step::{Normal, inner as turn};
+use normal_step::inner as turn;
 use value_normal::inner as value;
+use wire::Refusal;
 
 // The normal form of the row at the cursor: how many bytes it has, and where the row ends.
-pub fn normal_row(cols: &[Column], s: &[u8], cursor: Cursor, out: &mut [u8]) -> Normal
+pub fn normal_row(
+    cols: &[Column],
+    s: &[u8],
+    cursor: Cursor,
+    out: &mut [u8],
+) -> Result<(usize, Cursor), Refusal>
     ensures answer { (b : List ℕ) → normal_told result ≡ map_read length (fitted_read (λ (bytes : List ℕ). bytes) (read_at (normal (columns_told b cols.now)) s.now cursor.at) (length out.old)) }
     ensures room { (b : List ℕ) → out.new ≡ room_after_read (λ (bytes : List ℕ). bytes) (fitted_read (λ (bytes : List ℕ). bytes) (read_at (normal (columns_told b cols.now)) s.now cursor.at) (length out.old)) out.old }
 {
@@ -24,11 +30,9 @@ pub fn normal_row(cols: &[Column], s: &[u8], cursor: Cursor, out: &mut [u8]) -> 
     let fits = turn::fit_in(judged, out.len());
     let n = turn::turns(fits, cols.len());
     let mut run = turn::open_run(fits, cursor);
-    let mut i: usize = 0;
-    while i < n {
+    for i in 0..n {
         let c = inner::column_at(cols, i);
         run = turn::normal_on(out, c, s, run);
-        i += 1;
     }
     value::close_run(out, s, run);
     fits

@@ -2,10 +2,10 @@
 -- A null, a scalar and short content copy nothing, so that they need no room and the count of copied bytes stays. PLP content counts as many more as its chunks
 -- join to, and is refused only where no room could hold them.
 -- Assumes nothing.
+use Rattle.std.specs.Prelude.{None, Option, Some}
 use mathlib.Core.Path.{◌≡◌, refl, ap, sym, ◌∙◌}
 use mathlib.Core.Bool.{Bool, true, false}
 use mathlib.Core.List.{List, []}
-use mathlib.Core.Option.{Option, none, some}
 use Prim.Native.Nat.{ℕ, ◌+◌, ◌-◌, ◌<◌, ◌≤◌}
 use native.Mathlib.Nat.{add-zero}
 use native.Mathlib.Omega.{arith}
@@ -59,15 +59,15 @@ module _ (c : D.Column) (at copied : ℕ) where
 
   -- content behind the two length bytes
   pub part_placed : is_plp c ≡ false → (r : Read Value) (k : ContentKind) (rest : List ℕ) (start count : ℕ) → start ≡ 2 → start + count ≤ length rest
-      → took (content_value k (some (take count (drop start rest)))) (start + count) ≡ r
+      → took (content_value k (Some (take count (drop start rest)))) (start + count) ≡ r
       → (found : F.Found) → found ≡ content_found k (F.in_input (at + start) count)
       → took (record { found = found; copied = copied }) (at + (start + count)) ≡ placed_behind c r at copied
   part_placed t r k rest start count two inside e found is =
       let s = take count (drop start rest) in
       let l : length s ≡ count = length-take-le count (drop start rest) (omega (arith, length-drop start rest)) in
-      let f : found ≡ F.found_of c at copied (content_value k (some s)) = is ∙ sym (stands-input c at copied t k s ∙ rw (l, two)) in
+      let f : found ≡ F.found_of c at copied (content_value k (Some s)) = is ∙ sym (stands-input c at copied t k s ∙ rw (l, two)) in
       ap (λ (x : F.Found). took (record { found = x; copied = copied }) (at + (start + count))) f
-      ∙ (kept (content_value k (some s)) (start + count) (none_copied c t (content_value k (some s))) ∙ ap (λ (x : Read Value). placed_behind c x at copied) e)
+      ∙ (kept (content_value k (Some s)) (start + count) (none_copied c t (content_value k (Some s))) ∙ ap (λ (x : Read Value). placed_behind c x at copied) e)
 
   -- PLP content, by what was judged of it
   module _ (t : is_plp c ≡ true) (k : ContentKind) (rest : List ℕ) where
@@ -77,13 +77,13 @@ module _ (c : D.Column) (at copied : ℕ) where
     abbrev asked : Read Placed
     asked = placed_behind c (map_read (content_value k) plp) at copied
 
-    pub plp_null_lem : took none 8 ≡ map_read counted plp → took (record { found = F.Found.null; copied = copied }) (at + 8) ≡ asked
+    pub plp_null_lem : took None 8 ≡ map_read counted plp → took (record { found = F.Found.null; copied = copied }) (at + 8) ≡ asked
     plp_null_lem h = null-placed (map_read (content_value k) plp) 8 (ap (map_read (content_value k)) (sym (counted-null plp 8 (sym h))))
 
     pub plp_stops : (d : Refusal) → stops d ≡ map_read counted plp → stops d ≡ asked
     plp_stops d h = stops-placed (map_read (content_value k) plp) d (ap (map_read (content_value k)) (sym (counted-stops plp d (sym h))))
 
-    module _ (count end : ℕ) (h : took (some count) end ≡ map_read counted plp) where
+    module _ (count end : ℕ) (h : took (Some count) end ≡ map_read counted plp) where
       -- the content that was counted
       abbrev content : List ℕ
       content = content_in plp
@@ -91,7 +91,7 @@ module _ (c : D.Column) (at copied : ℕ) where
       long_as : length content ≡ count
       long_as = (counted-content plp count end (sym h)).long
 
-      joined : asked ≡ placed_behind c (took (content_value k (some content)) end) at copied
+      joined : asked ≡ placed_behind c (took (content_value k (Some content)) end) at copied
       joined =
           ap (λ (x : Read (Option (List ℕ))). placed_behind c (map_read (content_value k) x) at copied) (counted-content plp count end (sym h)).content
 
@@ -100,15 +100,15 @@ module _ (c : D.Column) (at copied : ℕ) where
       unfolding fitted_read
       plp_long l =
           let u : ltb left count ≡ true = lt-ltb left count l in
-          sym (joined ∙ rw (copies c t k (some content), long_as, u))
+          sym (joined ∙ rw (copies c t k (Some content), long_as, u))
 
       pub plp_placed : count ≤ left → (found : F.Found) → found ≡ content_found k (F.in_room copied count)
           → took (record { found = found; copied = copied + count }) (at + end) ≡ asked
       unfolding fitted_read
       plp_placed l found is =
           let u : ltb left count ≡ false = le-ltb left count l in
-          let f = stands-room c at copied t k (some content) in
-          let d = copies c t k (some content) in
+          let f = stands-room c at copied t k (Some content) in
+          let d = copies c t k (Some content) in
           sym (joined ∙ rw (d, long_as, u, f, d, long_as, is))
 
 -- ---- at a place of the input: behind the end 1, then rule 6, then what was read of the rest

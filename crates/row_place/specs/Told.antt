@@ -1,4 +1,5 @@
 -- What this crate's declared types tell, in the words of `format`: a value by where its content stands, and the place behind it.
+use Rattle.std.specs.Prelude.{Err, Ok, Result}
 use Rattle.std.specs.Prelude.{ℕ, ◌+◌, ◌-◌, List, length}
 use Rattle.format.specs.Answer.{Read, took, stops, map_read, read_at, fitted_read}
 use Rattle.format.specs.Descriptor as D
@@ -6,8 +7,9 @@ use Rattle.format.specs.Value.{Value, read_value, copied_out}
 use Rattle.format.specs.Found as F
 use Rattle.wire.specs.Told.{refusal_told}
 use Rattle.value_found.specs.Told.{found_told, CanonicalFound, behind}
-use Rattle.row_place.specs.declared.RowValue.{RowValue}
-use Rattle.row_place.specs.declared.RowValue.TheVariants as R
+use Rattle.value_found.specs.declared.Found.{Found}
+use Rattle.wire.specs.declared.Refusal.{Refusal}
+use Rattle.row_place.specs.declared.RowPlace.{RowPlace}
 
 -- a value that was found, and the content bytes copied out up to the next one
 pub record Placed : Type 0 where
@@ -18,14 +20,14 @@ abbrev pub placed_of : D.Column → ℕ → ℕ → Value → Placed
 placed_of c at copied v = record { found = F.found_of c at copied v; copied = copied + length (copied_out c v) }
 
 -- what was found, and the next place
-abbrev pub row_value_told : RowValue → Read Placed
-row_value_told (R.Value f p) = took (record { found = found_told f; copied = p.copied }) p.cursor.at
-row_value_told (R.Refused e) = stops (refusal_told e)
+abbrev pub row_value_told : Result (Found × RowPlace) Refusal → Read Placed
+row_value_told (Ok (f, p)) = took (record { found = found_told f; copied = p.copied }) p.cursor.at
+row_value_told (Err e) = stops (refusal_told e)
 
 -- a scalar that was found is the canonical one
-abbrev pub CanonicalPlaced : RowValue → Type 0
-CanonicalPlaced (R.Value f p) = CanonicalFound f
-CanonicalPlaced (R.Refused e) = Unit {0}
+abbrev pub CanonicalPlaced : Result (Found × RowPlace) Refusal → Type 0
+CanonicalPlaced (Ok (f, p)) = CanonicalFound f
+CanonicalPlaced (Err e) = Unit {0}
 
 -- ---- the value of a column at a place: "4: the whole output is longer than the room lent", and no room has more bytes than this
 

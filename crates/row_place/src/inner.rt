@@ -8,9 +8,8 @@ ghost use Rattle.value_kind.specs.Told.{content_kind_told, family_told};
 ghost use Rattle.value_found.specs.Told.{found_told, CanonicalFound, plp_value};
 ghost use Rattle.row_place.specs.Told.{row_value_told, CanonicalPlaced, placed_behind};
 
-use crate::{RowPlace, RowValue};
+use crate::RowPlace;
 use cursor::Cursor;
-use plp_join::Judged;
 use value_found::{Found, Stand, inner};
 use value_kind::family::{ContentKind, Family};
 use value_kind::{Span, family, kinds};
@@ -21,32 +20,36 @@ use wire::Refusal;
 const MOST_ROOM: usize = 18446744073709551615;
 
 // A value that was found, and the place behind it.
-fn placed(found: Found, next: usize, copied: usize) -> RowValue
+fn placed(found: Found, next: usize, copied: usize) -> Result<(Found, RowPlace), Refusal>
     requires { CanonicalFound found }
     ensures told { row_value_told result ≡ took (record { found = found_told found; copied = copied }) next }
     ensures canonical { CanonicalPlaced result }
 {
-    RowValue::Value(
+    Ok((
         found,
         RowPlace {
             cursor: Cursor { at: next },
             copied,
         },
-    )
+    ))
 }
 
 // PLP content, judged by its heads: it stands in the room behind what was copied out before it.
-fn plp_value(k: ContentKind, rest: &[u8], at: usize, copied: usize) -> RowValue
+fn plp_value(
+    k: ContentKind,
+    rest: &[u8],
+    at: usize,
+    copied: usize,
+) -> Result<(Found, RowPlace), Refusal>
     requires { at + length rest.now ≤ 18446744073709551615 }
     ensures told { (c : D.Column) → is_plp c ≡ true → row_value_told result ≡ placed_behind c (plp_value (content_kind_told k) rest.now) at copied }
     ensures canonical { CanonicalPlaced result }
 {
-    let judged = plp_join::judge_plp(rest, family::is_text(k));
-    match judged {
-        Judged::Null => placed(Found::Null, at + 8, copied),
-        Judged::Content(count, end) => {
+    match plp_join::judge_plp(rest, family::is_text(k))? {
+        None => placed(Found::Null, at + 8, copied),
+        Some((count, end)) => {
             if MOST_ROOM - copied < count {
-                return RowValue::Refused(Refusal::Room);
+                return Err(Refusal::Room);
             }
             let found = inner::content_found(
                 k,
@@ -56,24 +59,28 @@ fn plp_value(k: ContentKind, rest: &[u8], at: usize, copied: usize) -> RowValue
                 }),
             );
             placed(found, at + end, copied + count)
-        }
-        Judged::Refused(e) => RowValue::Refused(e),
+        },
     }
 }
 
 // The value that the rest of a row, from `at` on, begins with.
-pub fn find_in(f: Family, declared: u32, rest: &[u8], at: usize, copied: usize) -> RowValue
+pub fn find_in(
+    f: Family,
+    declared: u32,
+    rest: &[u8],
+    at: usize,
+    copied: usize,
+) -> Result<(Found, RowPlace), Refusal>
     requires { at + length rest.now ≤ 18446744073709551615 }
     ensures told { (c : D.Column) → c.length ≡ declared → row_value_told result ≡ placed_behind c (read_family declared (family_told f) rest.now) at copied }
     ensures canonical { CanonicalPlaced result }
 {
-    let seen = value_look::look(f, declared, rest);
-    match seen {
+    match value_look::look(f, declared, rest)? {
         Seen::Null(n) => placed(Found::Null, at + n, copied),
         Seen::Scalar(k, from) => {
             let v = scalar_read::inner::scalar_at(k, rest, from);
             placed(Found::Scalar(v), at + (from + kinds::bytes_of(k)), copied)
-        }
+        },
         Seen::Part(k, start, count) => {
             let found = inner::content_found(
                 k,
@@ -83,8 +90,7 @@ pub fn find_in(f: Family, declared: u32, rest: &[u8], at: usize, copied: usize) 
                 }),
             );
             placed(found, at + (start + count), copied)
-        }
+        },
         Seen::Plp(k) => plp_value(k, rest, at, copied),
-        Seen::Refused(e) => RowValue::Refused(e),
     }
 }

@@ -21,23 +21,16 @@ pub struct RowPlace {
     pub copied: usize,
 }
 
-// The value at a place and the next place, or why there is none.
-#[derive(Clone, Copy)]
-pub enum RowValue {
-    Value(Found, RowPlace),
-    Refused(Refusal),
-}
-
 impl RowPlace {
     // The value of the column at this place. PLP content stands in the room behind what was copied
     // out before it; it is judged here, and its bytes are not looked at.
-    pub fn value(self, c: Column, s: &[u8]) -> RowValue
+    pub fn value(self, c: Column, s: &[u8]) -> Result<(Found, RowPlace), Refusal>
         ensures told { (b : List ℕ) → row_value_told result ≡ placed_at (column_told b c) s.now self.cursor.at self.copied }
         ensures canonical { CanonicalPlaced result }
     {
         let at = self.cursor.at;
         if s.len() < at {
-            return RowValue::Refused(Refusal::Missing);
+            return Err(Refusal::Missing);
         }
         if column_rule::keeps_rule(c) {
             let ty = c.ty;
@@ -49,6 +42,6 @@ impl RowPlace {
                 self.copied,
             );
         }
-        RowValue::Refused(Refusal::Rule)
+        Err(Refusal::Rule)
     }
 }

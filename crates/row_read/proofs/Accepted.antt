@@ -3,6 +3,7 @@
 -- Why it holds: the columns' values were read one after another at these places, and what they copy out fits the room, so that no count of copied bytes is too
 -- long; content stands where it is found by the laws of `format`.
 -- Assumes nothing.
+use Rattle.std.specs.Prelude.{Err, Ok, Result}
 use mathlib.Core.Path.{◌≡◌, refl, sym, ap, ◌∙◌, subst}
 use mathlib.Core.Bool.{false}
 use mathlib.Core.List.{List, [], ◌∷◌, ◌++◌}
@@ -27,14 +28,12 @@ use Rattle.columns.specs.Told.{columns_told}
 use Rattle.value_found.specs.declared.Found.{Found}
 use Rattle.value_found.specs.Told.{found_told}
 use Rattle.row_place.specs.declared.RowPlace.{RowPlace}
-use Rattle.row_place.specs.declared.RowValue.{RowValue}
-use Rattle.row_place.specs.declared.RowValue.TheVariants as Rv
 use Rattle.row_place.specs.Told.{Placed, placed_of, row_value_told, most_room, placed_at}
 use Rattle.row_place.proofs.Decided.{GivesValue}
-use Rattle.read_step.specs.declared.RowRead.TheVariants as R
 use Rattle.read_step.specs.Told.{Place, first_place, place_told}
 use Rattle.read_step.proofs.Joining.{within}
 use Rattle.row_read.proofs.Decided.{read_out, ReadsRow}
+use Rattle.wire.specs.declared.Refusal.{Refusal}
 
 -- ---- taking `value` for each column in turn: whatever it may answer by its contract is the value that is found, and it goes on at the next place
 
@@ -43,7 +42,7 @@ Accepts s [] p [] next = p.cursor.at ≡ next
 Accepts s [] p (g ∷ gs) next = ⊥
 Accepts s (c ∷ cs) p [] next = ⊥
 Accepts s (c ∷ cs) p (g ∷ gs) next =
-    (r : RowValue) → GivesValue c s p r → (f : Found) × (q : RowPlace) × (r ≡ Rv.Value f q) × (found_told f ≡ g) × Accepts s cs q gs next
+    (r : Result (Found × RowPlace) Refusal) → GivesValue c s p r → (f : Found) × (q : RowPlace) × (r ≡ Ok (f, q)) × (found_told f ≡ g) × Accepts s cs q gs next
 
 -- ---- one column
 
@@ -56,21 +55,21 @@ module _ (d : D.Column) (s : List ℕ) (at copied : ℕ) (v : Value) (m : ℕ) (
       rw (e, t)
 
   -- an answer that tells it
-  record Given (r : RowValue) : Type 0 where
+  record Given (r : Result (Found × RowPlace) Refusal) : Type 0 where
     pub found : Found
     pub place : RowPlace
-    pub is : r ≡ Rv.Value found place
+    pub is : r ≡ Ok (found, place)
     pub told : found_told found ≡ F.found_of d at copied v
     pub next : place.cursor.at ≡ m
     pub more : place.copied ≡ copied + length (copied_out d v)
 
-  given : (r : RowValue) → row_value_told r ≡ placed_at d s at copied → Given r
-  given (Rv.Value f q) h =
+  given : (r : Result (Found × RowPlace) Refusal) → row_value_told r ≡ placed_at d s at copied → Given r
+  given (Ok (f, q)) h =
       let t : took (record { found = found_told f; copied = q.copied }) q.cursor.at ≡ took (placed_of d at copied v) m = h ∙ placed_is in
       let z : ◌≡◌ {A = Placed} (record { found = found_told f; copied = q.copied }) (placed_of d at copied v) = cc t in
       let n : q.cursor.at ≡ m = cc t in
       record { found = f; place = q; is = refl; told = ap (λ (x : Placed). x.found) z; next = n; more = ap (λ (x : Placed). x.copied) z }
-  given (Rv.Refused r) h = clash (cc (h ∙ placed_is))
+  given (Err r) h = clash (cc (h ∙ placed_is))
 
 -- ---- the columns, one after another
 
@@ -120,7 +119,7 @@ from_first b cols s at out p vs next l h e z =
 
 -- a room has no more bytes than a number counts
 pub accepted : (cols : List Column) (s : List ℕ) (at : ℕ) (out : List ℕ) (p : RowPlace) (next : Cursor) (after : List ℕ) → length out ≤ most_room
-    → ReadsRow cols s at out (R.Row p next) after → (b : List ℕ) → Accepted cols s at after p next b
+    → ReadsRow cols s at out (Ok (p, next)) after → (b : List ℕ) → Accepted cols s at after p next b
 accepted cols s at out p next after l h b =
     let cs = columns_told b cols in
     let t = map-took (λ (vs : List Value). first_place at) (read_out cols s at out b) (place_told p) next.at (sym (h.told b)) in

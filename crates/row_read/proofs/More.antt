@@ -1,6 +1,7 @@
 -- An answer other than refusal 1 does not change when more bytes follow the input: of `judge_row`, of `read_row` and its room, and of `value`.
 -- Why it holds: the definitions that the contracts tell are steady, and the contracts decide their answers.
 -- Assumes nothing.
+use Rattle.std.specs.Prelude.{Result}
 use mathlib.Core.Path.{◌≡◌, ap, ◌∙◌}
 use mathlib.Core.List.{List, ◌++◌}
 use Prim.Native.Nat.{ℕ, ◌-◌}
@@ -13,20 +14,21 @@ use Rattle.format.proofs.MoreReaders.{stream_value, stream_row}
 use Rattle.column_type.specs.declared.Column.{Column}
 use Rattle.column_type.specs.Told.{column_told}
 use Rattle.columns.specs.Told.{columns_told}
-use Rattle.judge_step.specs.declared.RowJudged.{RowJudged}
 use Rattle.judge_step.specs.Told.{needs_of, row_judged_told}
 use Rattle.row_judge.proofs.Decided.{JudgesRow, judge_row_decided}
 use Rattle.row_place.specs.declared.RowPlace.{RowPlace}
-use Rattle.row_place.specs.declared.RowValue.{RowValue}
 use Rattle.row_place.specs.Told.{placed_of, row_value_told, most_room}
 use Rattle.row_place.proofs.Decided.{GivesValue, value_decided}
-use Rattle.read_step.specs.declared.RowRead.{RowRead}
 use Rattle.read_step.specs.Told.{first_place, row_read_told}
 use Rattle.row_read.proofs.Decided.{read_out, ReadsRow, read_row_decided}
+use Rattle.wire.specs.declared.Refusal.{Refusal}
+use Rattle.value_found.specs.declared.Found.{Found}
+use Rattle.cursor.specs.declared.Cursor.{Cursor}
+use Rattle.judge_step.specs.declared.RowNeeds.{RowNeeds}
 
 module _ (cols : List Column) (s more : List ℕ) (at : ℕ) where
   -- `row_judge::judge_row`
-  pub more_judged : (x y : RowJudged) → JudgesRow cols s at x → JudgesRow cols (s ++ more) at y → (row_judged_told x ≡ stops missing → ⊥) → x ≡ y
+  pub more_judged : (x y : Result RowNeeds Refusal) → JudgesRow cols s at x → JudgesRow cols (s ++ more) at y → (row_judged_told x ≡ stops missing → ⊥) → x ≡ y
   more_judged x y p q h =
       judge_row_decided cols s at x y p (record { told = λ b. q.told b ∙ ap (map_read (needs_of (columns_told b cols))) (same b) })
     where
@@ -36,7 +38,7 @@ module _ (cols : List Column) (s more : List ℕ) (at : ℕ) where
           steady_at (read_row cs) at (stream_row cs).steady s more (λ e. h (p.told b ∙ ap (map_read (needs_of cs)) e))
 
   -- `row_read::read_row`, its room included
-  pub more_read : (out : List ℕ) (x y : RowRead) (a b : List ℕ) → ReadsRow cols s at out x a → ReadsRow cols (s ++ more) at out y b
+  pub more_read : (out : List ℕ) (x y : Result (RowPlace × Cursor) Refusal) (a b : List ℕ) → ReadsRow cols s at out x a → ReadsRow cols (s ++ more) at out y b
       → (row_read_told x ≡ stops missing → ⊥) → (x ≡ y) × (a ≡ b)
   more_read out x y a b p q h = read_row_decided cols s at out x y a b p (record {
     told = λ names. q.told names ∙ ap (map_read (λ (vs : List Value). first_place at)) (same names);
@@ -50,7 +52,7 @@ module _ (cols : List Column) (s more : List ℕ) (at : ℕ) where
           (λ e. h (p.told names ∙ ap (map_read (λ (vs : List Value). first_place at)) e))
 
 -- `row_place::RowPlace::value`
-pub more_value : (c : Column) (s more : List ℕ) (p : RowPlace) (x y : RowValue) → GivesValue c s p x → GivesValue c (s ++ more) p y
+pub more_value : (c : Column) (s more : List ℕ) (p : RowPlace) (x y : Result (Found × RowPlace) Refusal) → GivesValue c s p x → GivesValue c (s ++ more) p y
     → (row_value_told x ≡ stops missing → ⊥) → x ≡ y
 more_value c s more p x y g k h = value_decided c s p x y g (record {
   told = λ b. k.told b ∙ ap (map_read (placed_of (column_told b c) p.cursor.at p.copied)) (same b);

@@ -12,11 +12,18 @@ ghost use Rattle.read_step.specs.Told.{first_place, row_read_told};
 use column_type::Column;
 use columns::inner;
 use cursor::Cursor;
-use read_step::{RowRead, inner as turn};
+use read_step::inner as turn;
+use row_place::RowPlace;
+use wire::Refusal;
 
 // The row at the cursor: its first value's place, from which `value` takes the values in turn, and
 // where it ends. What PLP content joins to stands at the front of the room.
-pub fn read_row(cols: &[Column], s: &[u8], cursor: Cursor, out: &mut [u8]) -> RowRead
+pub fn read_row(
+    cols: &[Column],
+    s: &[u8],
+    cursor: Cursor,
+    out: &mut [u8],
+) -> Result<(RowPlace, Cursor), Refusal>
     ensures told { (b : List ℕ) → row_read_told result ≡ map_read (λ vs. first_place cursor.at) (fitted_read (copied_out_row (columns_told b cols.now)) (read_at (read_row (columns_told b cols.now)) s.now cursor.at) (length out.old)) }
     ensures room { (b : List ℕ) → out.new ≡ room_after_read (copied_out_row (columns_told b cols.now)) (fitted_read (copied_out_row (columns_told b cols.now)) (read_at (read_row (columns_told b cols.now)) s.now cursor.at) (length out.old)) out.old }
 {
@@ -24,11 +31,9 @@ pub fn read_row(cols: &[Column], s: &[u8], cursor: Cursor, out: &mut [u8]) -> Ro
     let fits = turn::fit_in(judged, out.len());
     let n = turn::turns(fits, cols.len());
     let mut place = turn::first(cursor);
-    let mut i: usize = 0;
-    while i < n {
+    for i in 0..n {
         let c = inner::column_at(cols, i);
         place = turn::join_on(out, c, s, place);
-        i += 1;
     }
     turn::answer(fits, cursor)
 }

@@ -5,27 +5,25 @@
 ghost use Rattle.std.specs.Prelude.{◌≡◌};
 ghost use Rattle.format.specs.Answer.{wrote};
 ghost use Rattle.format.specs.Row.{write_row};
-ghost use Rattle.wire.specs.Told.{wrote_told};
+ghost use Rattle.wire.specs.Told.{answer_told};
 ghost use Rattle.columns.specs.Told.{columns_told, values_told};
 
 use column_type::Column;
 use columns::inner;
 use row_step::inner as turn;
 use value_kind::Value;
-use wire::Wrote;
+use wire::Refusal;
 
 // How many bytes the row takes, or why it cannot be written.
-pub fn row_size(cols: &[Column], values: &[Value], buffer: &[u8]) -> Wrote
-    ensures { wrote_told result ≡ wrote (write_row (columns_told buffer.now cols.now) (values_told buffer.now values.now)) }
+pub fn row_size(cols: &[Column], values: &[Value], buffer: &[u8]) -> Result<usize, Refusal>
+    ensures { answer_told result ≡ wrote (write_row (columns_told buffer.now cols.now) (values_told buffer.now values.now)) }
 {
     let mut s = turn::start(cols.len(), values.len());
     let n = turn::turns(s, cols.len());
-    let mut i: usize = 0;
-    while i < n {
+    for i in 0..n {
         let c = inner::column_at(cols, i);
         let v = inner::value_at(values, i);
         s = turn::size_on(c, v, buffer, s);
-        i += 1;
     }
     s
 }

@@ -2,10 +2,10 @@
 -- Why it holds: a scalar has at most sixteen bytes; content that was not refused as too long is no longer than its declared length, which rule 6 keeps below
 -- 256 to the fourth, or than the PLP bound; what a form puts around it has at most sixteen bytes.
 -- Assumes nothing.
+use Rattle.std.specs.Prelude.{None, Option, Some}
 use mathlib.Core.Path.{◌≡◌, refl}
 use mathlib.Core.Bool.{Bool, true, false, not}
 use mathlib.Core.List.{List, [], ◌∷◌}
-use mathlib.Core.Option.{Option, none, some}
 use Prim.Native.Nat.{ℕ, ◌+◌, ◌<◌, ◌≤◌, ◌^◌}
 use native.Mathlib.Omega.{arith}
 use lib.ListN.{length, length-append}
@@ -50,7 +50,7 @@ Short (Values.Value.binary s) = Unit {0}
 Short (Values.Value.string s) = Unit {0}
 
 -- content in the PLP form, and in either form
-plp_length : (s : List ℕ) → length (plp_bytes (some s)) ≤ length s + 16
+plp_length : (s : List ℕ) → length (plp_bytes (Some s)) ≤ length s + 16
 unfolding plp_bytes
 plp_length [] = omega arith
 plp_length (b ∷ bs) = omega (arith, length-append bs (low_bytes 4 0))
@@ -61,14 +61,14 @@ module _ (n : ℕ) (h : n < 256 ^ 4) where
   bound-below true = omega arith
   bound-below false = omega arith
 
-  content-below : (s : List ℕ) → ltb (content_bound n) (length s) ≡ false → length (encode_content n (some s)) ≤ most_of
+  content-below : (s : List ℕ) → ltb (content_bound n) (length s) ≡ false → length (encode_content n (Some s)) ≤ most_of
   content-below s e = go (eqb n plp_mark)
     where
-      go : (b : Bool) → length (pick b (plp_bytes (some s)) (Values.short_bytes s)) ≤ most_of
+      go : (b : Bool) → length (pick b (plp_bytes (Some s)) (Values.short_bytes s)) ≤ most_of
       go true = omega (arith, plp_length s, ltb-false (content_bound n) (length s) e, bound-below (eqb n plp_mark))
       go false = omega (arith, ltb-false (content_bound n) (length s) e, bound-below (eqb n plp_mark))
 
-  null-below : (b : Bool) → length (pick b (plp_bytes none) (low_bytes 2 Values.short_null)) ≤ most_of
+  null-below : (b : Bool) → length (pick b (plp_bytes None) (low_bytes 2 Values.short_null)) ≤ most_of
   unfolding plp_bytes
   null-below true = omega arith
   null-below false = omega arith
@@ -114,8 +114,8 @@ module _ (buffer : List ℕ) (c : D.Column) (d : Value) where
   g = value_told buffer d
 
   family_below : (bytes : List ℕ) → c.length < 256 ^ 4 → (f : Option Family) → write_family c.length f g ≡ gives bytes → length bytes ≤ most_of
-  family_below bytes k none h = no_gives not_carried bytes h
-  family_below bytes k (some f) h =
+  family_below bytes k None h = no_gives not_carried bytes h
+  family_below bytes k (Some f) h =
       let p = passed (not (kind_fits f g)) kind (and_then (value_of g) (bounded c.length f)) bytes h in
       let q = and_took (value_of g) (bounded c.length f) bytes p.1 in
       let r = passed (too_long c.length f q.0) long (gives (encode_in c.length f q.0)) bytes q.2 in

@@ -3,68 +3,62 @@
 ghost use Rattle.std.specs.Prelude.{◌≡◌, ◌+◌, length};
 ghost use Rattle.lists.specs.Put.{put_at};
 ghost use Rattle.format.specs.Value.{write_value};
-ghost use Rattle.wire.specs.Told.{wrote_told};
+ghost use Rattle.wire.specs.Told.{answer_told};
 ghost use Rattle.column_type.specs.Told.{column_told};
 ghost use Rattle.value_kind.specs.Told.{value_told};
 ghost use Rattle.row_step.specs.Steps.{start_of, turns_of, size_on, fit_in, Below, FitsAt, bytes_in};
 
 use column_type::Column;
 use value_kind::Value;
-use wire::{Refusal, Wrote};
+use wire::Refusal;
 
 // The number of columns, and as many values.
-pub fn start(columns: usize, values: usize) -> Wrote
-    ensures { wrote_told result ≡ start_of columns values }
+pub fn start(columns: usize, values: usize) -> Result<usize, Refusal>
+    ensures { answer_told result ≡ start_of columns values }
 {
     if 1024 < columns {
-        return Wrote::Refused(Refusal::Rule);
+        return Err(Refusal::Rule);
     }
     if columns != values {
-        return Wrote::Refused(Refusal::Rule);
+        return Err(Refusal::Rule);
     }
-    Wrote::Bytes(0)
+    Ok(0)
 }
 
 // How many turns a pass has: none where the row was refused before it.
-pub fn turns(s: Wrote, columns: usize) -> usize
-    ensures { result ≡ turns_of (wrote_told s) columns }
+pub fn turns(s: Result<usize, Refusal>, columns: usize) -> usize
+    ensures { result ≡ turns_of (answer_told s) columns }
 {
     match s {
-        Wrote::Bytes(_) => columns,
-        Wrote::Refused(_) => 0,
+        Ok(_) => columns,
+        Err(_) => 0,
     }
 }
 
 // One value's size more. A refused row stays refused.
-pub fn size_on(c: Column, v: Value, buffer: &[u8], s: Wrote) -> Wrote
-    requires { Below 1024 (wrote_told s) }
-    ensures { wrote_told result ≡ size_on (wrote_told s) (write_value (column_told buffer.now c) (value_told buffer.now v)) }
+pub fn size_on(
+    c: Column,
+    v: Value,
+    buffer: &[u8],
+    s: Result<usize, Refusal>,
+) -> Result<usize, Refusal>
+    requires { Below 1024 (answer_told s) }
+    ensures { answer_told result ≡ size_on (answer_told s) (write_value (column_told buffer.now c) (value_told buffer.now v)) }
 {
-    match s {
-        Wrote::Bytes(at) => {
-            let size = value_write::value_size(c, v, buffer);
-            match size {
-                Wrote::Bytes(n) => Wrote::Bytes(at + n),
-                Wrote::Refused(e) => Wrote::Refused(e),
-            }
-        }
-        Wrote::Refused(e) => Wrote::Refused(e),
-    }
+    let at = s?;
+    let n = value_write::value_size(c, v, buffer)?;
+    Ok(at + n)
 }
 
 // Between the passes: is there room for the row?
-pub fn fit_in(size: Wrote, room: usize) -> Wrote
-    ensures { wrote_told result ≡ fit_in (wrote_told size) room }
+pub fn fit_in(size: Result<usize, Refusal>, room: usize) -> Result<usize, Refusal>
+    ensures { answer_told result ≡ fit_in (answer_told size) room }
 {
-    match size {
-        Wrote::Bytes(n) => {
-            if room < n {
-                return Wrote::Refused(Refusal::Room);
-            }
-            Wrote::Bytes(n)
-        }
-        Wrote::Refused(earlier) => Wrote::Refused(earlier),
+    let n = size?;
+    if room < n {
+        return Err(Refusal::Room);
     }
+    Ok(n)
 }
 
 // One value more, into the unused rest of the room. It hands back the next unused place.
@@ -73,9 +67,8 @@ pub fn fill_on(out: &mut [u8], c: Column, v: Value, buffer: &[u8], at: usize) ->
     ensures { (result ≡ at + length (bytes_in (write_value (column_told buffer.now c) (value_told buffer.now v))))
         × (out.new ≡ put_at out.old at (bytes_in (write_value (column_told buffer.now c) (value_told buffer.now v)))) }
 {
-    let wrote = value_write::write_value(c, v, buffer, &mut out[at..]);
-    match wrote {
-        Wrote::Bytes(n) => at + n,
-        Wrote::Refused(_) => at,
+    match value_write::write_value(c, v, buffer, &mut out[at..]) {
+        Ok(n) => at + n,
+        Err(_) => at,
     }
 }

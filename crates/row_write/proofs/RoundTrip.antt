@@ -4,6 +4,7 @@
 -- Why it holds: by the contract the bytes are those that `write_row` gives, at the front of the room, and what `write_row` gives reads back (`row_agrees` of
 -- format). A value of the code's type is in the range that this asks for (proofs/Ranges.antt).
 -- Assumes nothing.
+use Rattle.std.specs.Prelude.{Ok, Result}
 use mathlib.Core.Path.{◌≡◌, refl}
 use mathlib.Core.Bool.{Bool, true, false}
 use mathlib.Core.List.{List, ◌++◌}
@@ -16,14 +17,13 @@ use Rattle.format.specs.Value as Values
 use Rattle.format.specs.Row.{read_row, write_row}
 use Rattle.format.specs.Normal.{normal}
 use Rattle.format.proofs.Writing.{RangedAll, GivenAll, row_agrees}
-use Rattle.wire.specs.declared.Wrote.{Wrote}
-use Rattle.wire.specs.declared.Wrote.TheVariants as W
 use Rattle.wire.proofs.Decided.{Writes}
 use Rattle.wire.proofs.Writing.{count_is, not_refused}
 use Rattle.column_type.specs.declared.Column.{Column}
 use Rattle.value_kind.specs.declared.Value.{Value}
 use Rattle.columns.specs.Told.{columns_told, values_told}
 use Rattle.row_write.proofs.Ranges.{Typed, all_ranged}
+use Rattle.wire.specs.declared.Refusal.{Refusal}
 
 -- what `row_write::write_row` promises of its answer and of the room
 module _ (buffer : List ℕ) (cols : List Column) (values : List Value) where
@@ -31,7 +31,7 @@ module _ (buffer : List ℕ) (cols : List Column) (values : List Value) where
   abbrev asked : Answer (List ℕ)
   asked = write_row (columns_told buffer cols) (values_told buffer values)
 
-  abbrev pub WritesRow : List ℕ → Wrote → List ℕ → Type 0
+  abbrev pub WritesRow : List ℕ → Result ℕ Refusal → List ℕ → Type 0
   WritesRow out r after = Writes asked out r after
 
 -- an answered count is that of the bytes that were asked for
@@ -77,7 +77,7 @@ module _ (buffer : List ℕ) (cols : List Column) (values : List Value) (out aft
         kept = rw (e, c) (drop-append_seam j (drop (length j) out));
       }
 
-  pub reads_back : Typed values → WritesRow buffer cols values out (W.Bytes n) after → ReadsBack buffer cols values out after n
+  pub reads_back : Typed values → WritesRow buffer cols values out (Ok n) after → ReadsBack buffer cols values out after n
   reads_back r p =
       let g = gave (asked buffer cols values) (length out) n p.answer in
       back g.bytes g.given g.count (after_is g.bytes g.fit p.room) (all_ranged buffer values r)

@@ -5,30 +5,33 @@
 ghost use Rattle.std.specs.Prelude.{◌≡◌, length};
 ghost use Rattle.format.specs.Answer.{fitted, wrote, room_after};
 ghost use Rattle.format.specs.Row.{write_row};
-ghost use Rattle.wire.specs.Told.{wrote_told};
+ghost use Rattle.wire.specs.Told.{answer_told};
 ghost use Rattle.columns.specs.Told.{columns_told, values_told};
 
 use column_type::Column;
 use columns::inner;
 use row_step::inner as turn;
 use value_kind::Value;
-use wire::Wrote;
+use wire::Refusal;
 
 // The row, at the front of the room.
-pub fn write_row(cols: &[Column], values: &[Value], buffer: &[u8], out: &mut [u8]) -> Wrote
-    ensures answer { wrote_told result ≡ wrote (fitted (write_row (columns_told buffer.now cols.now) (values_told buffer.now values.now)) (length out.old)) }
+pub fn write_row(
+    cols: &[Column],
+    values: &[Value],
+    buffer: &[u8],
+    out: &mut [u8],
+) -> Result<usize, Refusal>
+    ensures answer { answer_told result ≡ wrote (fitted (write_row (columns_told buffer.now cols.now) (values_told buffer.now values.now)) (length out.old)) }
     ensures room { out.new ≡ room_after (fitted (write_row (columns_told buffer.now cols.now) (values_told buffer.now values.now)) (length out.old)) out.old }
 {
     let size = row_size::row_size(cols, values, buffer);
     let fits = turn::fit_in(size, out.len());
     let n = turn::turns(fits, cols.len());
     let mut at: usize = 0;
-    let mut i: usize = 0;
-    while i < n {
+    for i in 0..n {
         let c = inner::column_at(cols, i);
         let v = inner::value_at(values, i);
         at = turn::fill_on(out, c, v, buffer, at);
-        i += 1;
     }
     fits
 }

@@ -1,10 +1,8 @@
 // The value whose bytes stand at a place that lies inside, for the crates of this repository.
 ghost use Rattle.std.specs.Prelude.{◌≡◌, not, ◌+◌, ◌≤◌, eqb, length, take, drop};
 ghost use Rattle.format.specs.Scalar.{width, scalar_of};
-ghost use Rattle.format.specs.Scalar as S;
 ghost use Rattle.value_kind.specs.Told.{kind_told, scalar_told, Canonical};
 
-use bits::float::{Float32, Float64};
 use bits::{float, signed};
 use value_kind::Scalar;
 use value_kind::kinds::Kind;
@@ -20,28 +18,6 @@ fn truth(n: u64) -> bool
     true
 }
 
-// The float of 32 bits; a NaN by its pattern.
-fn float32(n: u32) -> Scalar
-    ensures { (scalar_told result ≡ S.Scalar.f32 n) × Canonical result }
-{
-    let x = float::from_bits32(n);
-    match x {
-        Float32::Value(v) => Scalar::F32(v),
-        Float32::Nan(m) => Scalar::F32Nan(m),
-    }
-}
-
-// The float of 64 bits; a NaN by its pattern.
-fn float64(n: u64) -> Scalar
-    ensures { (scalar_told result ≡ S.Scalar.f64 n) × Canonical result }
-{
-    let x = float::from_bits64(n);
-    match x {
-        Float64::Value(v) => Scalar::F64(v),
-        Float64::Nan(m) => Scalar::F64Nan(m),
-    }
-}
-
 // The value of the kind whose bytes stand at `at`.
 pub fn scalar_at(k: Kind, s: &[u8], at: usize) -> Scalar
     requires { at + width (kind_told k) ≤ length s.now }
@@ -54,8 +30,8 @@ pub fn scalar_at(k: Kind, s: &[u8], at: usize) -> Scalar
         Kind::I16 => Scalar::I16(signed::to_i16(inner::low_at(s, at, 2) as u16)),
         Kind::I32 => Scalar::I32(signed::to_i32(inner::low_at(s, at, 4) as u32)),
         Kind::I64 => Scalar::I64(signed::to_i64(inner::low_at(s, at, 8))),
-        Kind::F32 => float32(inner::low_at(s, at, 4) as u32),
-        Kind::F64 => float64(inner::low_at(s, at, 8)),
+        Kind::F32 => Scalar::from(float::from_bits32(inner::low_at(s, at, 4) as u32)),
+        Kind::F64 => Scalar::from(float::from_bits64(inner::low_at(s, at, 8))),
         Kind::Guid => Scalar::Guid(inner::guid_at(s, at)),
     }
 }

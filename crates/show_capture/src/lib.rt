@@ -3,14 +3,11 @@
 
 #![tactic(auto)]
 
-use capture_columns::ColumnsEnd;
 use column_type::Column;
 use cursor::Cursor;
-use normal_step::Normal;
-use read_step::RowRead;
 use show_line::refused;
 use std::io;
-use wire::{NumberRead, Width};
+use wire::Width;
 
 // The normal form of the row: its length and its bytes.
 fn show_normal(
@@ -23,8 +20,8 @@ fn show_normal(
 ) -> io::Result<()> {
     let made = held_normal::normal_held_row(cols, count, s, cursor, room);
     match made {
-        Normal::Bytes(n, _) => { show_line::say_normal(rt, &room[..n]) }
-        Normal::Refused(e) => { refused::say_refusal(rt, e) }
+        Ok((n, _)) => { show_line::say_normal(rt, &room[..n]) }
+        Err(e) => { refused::say_refusal(rt, e) }
     }
 }
 
@@ -40,13 +37,13 @@ fn show_row(
 ) -> io::Result<()> {
     let read = held_read::read_held_row(cols, count, s, cursor, joined);
     match read {
-        RowRead::Row(first, next) => {
+        Ok((first, next)) => {
             show_line::say_head(rt)?;
             show_row::show_values(rt, cols, count, s, first, joined, room)?;
             show_line::say_end(rt, next.at, s.len())?;
             show_normal(rt, cols, count, s, cursor, room)
         }
-        RowRead::Refused(e) => { show_row::show_stop(rt, e, cols, count, s, cursor) }
+        Err(e) => { show_row::show_stop(rt, e, cols, count, s, cursor) }
     }
 }
 
@@ -54,24 +51,21 @@ fn show_row(
 pub fn show(rt: &impl Print, s: &[u8], joined: &mut [u8], room: &mut [u8]) -> io::Result<()> {
     let counted = (wire::Cursor { at: 0 }).low(s, Width::Two);
     match counted {
-        NumberRead::Number(n, next) => {
+        Ok((n, next)) => {
             let count = n as usize;
-            let columns = capture_columns::read_columns(s, next, count);
-            let list = columns.list;
-            let end = columns.end;
-            match end {
-                ColumnsEnd::End(at) => show_row(
+            match capture_columns::read_columns(s, next, count) {
+                Ok(columns) => show_row(
                     rt,
-                    list,
+                    columns.list,
                     count,
                     s,
-                    Cursor { at: at.at },
+                    Cursor { at: columns.end.at },
                     joined,
                     room,
                 ),
-                ColumnsEnd::Refused(e, i, at) => refused::say_descriptor(rt, e, i, at.at, count),
+                Err(e) => refused::say_descriptor(rt, e.refusal, e.before, e.at.at, count),
             }
         }
-        NumberRead::Refused(e) => refused::say_count(rt, e),
+        Err(e) => refused::say_count(rt, e),
     }
 }

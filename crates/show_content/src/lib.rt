@@ -4,7 +4,7 @@
 #![tactic(auto)]
 
 use std::io;
-use wire::{Refusal, Wrote};
+use wire::Refusal;
 
 // How many bytes of content are shown.
 const MOST_BYTES: usize = 24;
@@ -66,8 +66,7 @@ fn say_letter(rt: &impl Print, before: u8, b: u8) -> io::Result<()> {
 // Text between quotes, as far as it is shown; whether that was all.
 fn say_letters(rt: &impl Print, s: &[u8]) -> io::Result<bool> {
     let mut before: u8 = 0;
-    let mut i: usize = 0;
-    while i < s.len() {
+    for i in 0..s.len() {
         let b = s[i];
         if MOST_TEXT <= i {
             if begins(b) {
@@ -76,7 +75,6 @@ fn say_letters(rt: &impl Print, s: &[u8]) -> io::Result<bool> {
         }
         say_letter(rt, before, b)?;
         before = b;
-        i += 1;
     }
     Ok(true)
 }
@@ -107,7 +105,7 @@ fn say_units(rt: &impl Print, e: Refusal, units: &[u8]) -> io::Result<()> {
 pub fn say_string(rt: &impl Print, units: &[u8], room: &mut [u8]) -> io::Result<()> {
     let made = text::to_utf8(units, room);
     match made {
-        Wrote::Bytes(n) => { say_text(rt, &room[..n], units.len()) }
-        Wrote::Refused(e) => say_units(rt, e, units),
+        Ok(n) => { say_text(rt, &room[..n], units.len()) }
+        Err(e) => say_units(rt, e, units),
     }
 }

@@ -8,13 +8,6 @@
 ghost use Rattle.show_float.specs.Short.{TenIn, Reads64, Reads32};
 ghost use Rattle.std.specs.Float.{binary32, binary64};
 
-// A number over a power of ten; or none that is short.
-#[derive(Clone, Copy)]
-pub enum Decimal {
-    Short(u64, u64),
-    Long,
-}
-
 // The whole numbers that a float of 64 bits, or of 32, holds exactly end here.
 const EXACT_64: u64 = 9007199254740992;
 
@@ -56,62 +49,58 @@ fn whole(x: f64) -> u64 {
 }
 
 // x over this power of ten.
-fn over64(x: f64, power: u64) -> Decimal
+fn over64(x: f64, power: u64) -> Option<(u64, u64)>
     requires { TenIn binary64 power }
     ensures { Reads64 x result }
 {
     let ten = std::num::nearest_u64_to_f64(power);
     let n = whole(x * ten);
     if EXACT_64 < n {
-        return Decimal::Long;
+        return None;
     }
     let q = std::num::nearest_u64_to_f64(n) / ten;
     if q == x {
-        return Decimal::Short(n, power);
+        return Some((n, power));
     }
-    Decimal::Long
+    None
 }
 
-fn over32(x: f32, power: u32) -> Decimal
+fn over32(x: f32, power: u32) -> Option<(u64, u64)>
     requires { TenIn binary32 power }
     ensures { Reads32 x result }
 {
     let wide = std::num::f32_to_f64_with_nan(x);
     let n = whole(wide * std::num::nearest_u64_to_f64(power as u64));
     if EXACT_32 < n {
-        return Decimal::Long;
+        return None;
     }
     let q = std::num::nearest_u32_to_f32(n as u32) / std::num::nearest_u32_to_f32(power);
     if q == x {
-        return Decimal::Short(n, power as u64);
+        return Some((n, power as u64));
     }
-    Decimal::Long
+    None
 }
 
 // The shortest decimal of at most 15 digits behind the point.
-pub fn short64(x: f64) -> Decimal
+pub fn short64(x: f64) -> Option<(u64, u64)>
     ensures { Reads64 x result }
 {
-    let mut k: usize = 0;
-    while k < 16 {
-        if let Decimal::Short(n, power) = over64(x, POWERS[k]) {
-            return Decimal::Short(n, power);
+    for power in POWERS {
+        if let Some(short) = over64(x, power) {
+            return Some(short);
         }
-        k += 1;
     }
-    Decimal::Long
+    None
 }
 
 // The shortest decimal of at most 9 digits behind the point.
-pub fn short32(x: f32) -> Decimal
+pub fn short32(x: f32) -> Option<(u64, u64)>
     ensures { Reads32 x result }
 {
-    let mut k: usize = 0;
-    while k < 10 {
-        if let Decimal::Short(n, power) = over32(x, POWERS_32[k]) {
-            return Decimal::Short(n, power);
+    for power in POWERS_32 {
+        if let Some(short) = over32(x, power) {
+            return Some(short);
         }
-        k += 1;
     }
-    Decimal::Long
+    None
 }

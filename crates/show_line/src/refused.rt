@@ -19,7 +19,7 @@ fn say_words(rt: &impl Print, e: Refusal) -> io::Result<usize> {
 
 pub fn say_refusal(rt: &impl Print, e: Refusal) -> io::Result<()> {
     words::text(rt, b"refused: ")?;
-    words::decimal(rt, words::refusal(e))?;
+    words::decimal(rt, u64::from(e.number()))?;
     words::text(rt, b", ")?;
     say_words(rt, e)?;
     words::text(rt, b"\n")?;

@@ -4,7 +4,6 @@
 
 use bits::float;
 use bits::float::{Float32, Float64};
-use show_float::Decimal;
 use std::io;
 use wire::Guid;
 
@@ -14,17 +13,17 @@ const SIGN_64: u64 = 9223372036854775808;
 const SIGN_32: u32 = 2147483648;
 
 // The bits without their sign, as a short decimal.
-fn decimal64(size: u64) -> Decimal {
+fn decimal64(size: u64) -> Option<(u64, u64)> {
     match float::from_bits64(size) {
         Float64::Value(x) => show_float::short64(x),
-        Float64::Nan(_) => Decimal::Long,
+        Float64::Nan(_) => None,
     }
 }
 
-fn decimal32(size: u32) -> Decimal {
+fn decimal32(size: u32) -> Option<(u64, u64)> {
     match float::from_bits32(size) {
         Float32::Value(x) => show_float::short32(x),
-        Float32::Nan(_) => Decimal::Long,
+        Float32::Nan(_) => None,
     }
 }
 
@@ -47,18 +46,18 @@ fn say_over(rt: &impl Print, n: u64, power: u64) -> io::Result<()> {
 fn say_float(
     rt: &impl Print,
     negative: bool,
-    d: Decimal,
+    d: Option<(u64, u64)>,
     bits: u64,
     digits: usize,
 ) -> io::Result<()> {
     match d {
-        Decimal::Short(n, power) => {
+        Some((n, power)) => {
             if negative {
                 words::text(rt, b"-")?;
             }
             say_over(rt, n, power)
         }
-        Decimal::Long => {
+        None => {
             words::text(rt, b"bits 0x")?;
             print!(rt; "{bits:0digits$x}")
         }

@@ -4,7 +4,7 @@
 
 use column_type::Column;
 use cursor::Cursor;
-use row_place::{RowPlace, RowValue};
+use row_place::RowPlace;
 use show_line::refused;
 use std::io;
 use wire::Refusal;
@@ -20,25 +20,18 @@ pub fn show_values(
     room: &mut [u8],
 ) -> io::Result<()> {
     let mut place = first;
-    let mut i: usize = 0;
-    while i < count {
+    for i in 0..count {
         if 1023 < i {
             return Ok(());
         }
         let c = cols[i];
-        let taken = place.value(c, s);
-        match taken {
-            RowValue::Value(found, next) => {
-                show_line::say_column(rt, i, c)?;
-                show_value::say_found(rt, found, s, joined, room)?;
-                words::text(rt, b"\n")?;
-                place = next;
-            }
-            RowValue::Refused(_) => {
-                return Ok(());
-            }
-        }
-        i += 1;
+        let Ok((found, next)) = place.value(c, s) else {
+            return Ok(());
+        };
+        show_line::say_column(rt, i, c)?;
+        show_value::say_found(rt, found, s, joined, room)?;
+        words::text(rt, b"\n")?;
+        place = next;
     }
     Ok(())
 }
@@ -54,22 +47,15 @@ pub fn show_stop(
 ) -> io::Result<()> {
     refused::say_refusal(rt, e)?;
     let mut place = RowPlace { cursor, copied: 0 };
-    let mut i: usize = 0;
-    while i < count {
+    for i in 0..count {
         if 1023 < i {
             return Ok(());
         }
         let c = cols[i];
-        let taken = place.value(c, s);
-        match taken {
-            RowValue::Value(_, next) => {
-                place = next;
-            }
-            RowValue::Refused(_) => {
-                return refused::say_value(rt, i, c, place.cursor.at);
-            }
-        }
-        i += 1;
+        let Ok((_, next)) = place.value(c, s) else {
+            return refused::say_value(rt, i, c, place.cursor.at);
+        };
+        place = next;
     }
     Ok(())
 }

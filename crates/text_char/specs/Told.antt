@@ -1,15 +1,15 @@
 -- What this crate's declared types tell, in the words of `format`.
+use Rattle.std.specs.Prelude.{Err, Ok, Result}
 use Rattle.std.specs.Prelude.{ℕ, List, [], ◌∷◌, Bool, false}
 use Rattle.format.specs.Answer.{Read, took, stops}
 use Rattle.format.specs.Text.{between}
 use Rattle.wire.specs.Told.{refusal_told}
-use Rattle.text_char.specs.declared.CharRead.{CharRead}
-use Rattle.text_char.specs.declared.CharRead.TheVariants as C
+use Rattle.wire.specs.declared.Refusal.{Refusal}
 
 -- one character: its scalar value and how many bytes it took
-abbrev pub char_told : CharRead → Read ℕ
-char_told (C.Char c n) = took c n
-char_told (C.Refused e) = stops (refusal_told e)
+abbrev pub char_told : Result (ℕ × ℕ) Refusal → Read ℕ
+char_told (Ok (c, n)) = took c n
+char_told (Err e) = stops (refusal_told e)
 
 -- whether a byte of a range stands in front
 abbrev pub stands_in : ℕ → ℕ → List ℕ → Bool

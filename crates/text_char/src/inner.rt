@@ -5,7 +5,7 @@ ghost use Rattle.format.specs.Text.{second8, unit, pair16};
 ghost use Rattle.text_char.specs.Told.{char_told};
 ghost use Rattle.text_lead.specs.Told.{row_told, Led};
 
-use crate::{CharRead, utf8};
+use crate::utf8;
 use text_lead::{Row, within};
 use wire::Refusal;
 
@@ -18,28 +18,28 @@ fn six_at(s: &[u8], at: usize) -> u32
 }
 
 // The rest of a character from its second byte on, behind the first byte a.
-pub fn rest8_at(s: &[u8], at: usize, a: u32, row: Row) -> CharRead
+pub fn rest8_at(s: &[u8], at: usize, a: u32, row: Row) -> Result<(u32, usize), Refusal>
     requires { Led a (row_told row) }
     ensures { char_told result ≡ second8 (row_told row) a (drop at s.now) }
 {
     if !utf8::stands(s, at, row.low, row.high) {
-        return CharRead::Refused(Refusal::NotText);
+        return Err(Refusal::NotText);
     }
     let two = (a - row.marker) * 64 + six_at(s, at);
     if row.more == 0 {
-        return CharRead::Char(two, 2);
+        return Ok((two, 2));
     }
     if !utf8::stands(s, at + 1, 0x80, 0xBF) {
-        return CharRead::Refused(Refusal::NotText);
+        return Err(Refusal::NotText);
     }
     let three = two * 64 + six_at(s, at + 1);
     if row.more == 1 {
-        return CharRead::Char(three, 3);
+        return Ok((three, 3));
     }
     if !utf8::stands(s, at + 2, 0x80, 0xBF) {
-        return CharRead::Refused(Refusal::NotText);
+        return Err(Refusal::NotText);
     }
-    CharRead::Char(three * 64 + six_at(s, at + 2), 4)
+    Ok((three * 64 + six_at(s, at + 2), 4))
 }
 
 // The unit at a place, low byte first.
@@ -51,16 +51,16 @@ pub fn unit_at(s: &[u8], at: usize) -> u32
 }
 
 // The rest of a character behind the high surrogate a: the low surrogate at a place.
-pub fn pair_at(s: &[u8], at: usize, a: u32) -> CharRead
+pub fn pair_at(s: &[u8], at: usize, a: u32) -> Result<(u32, usize), Refusal>
     requires { (at ≤ length s.now) × (0xD800 ≤ a) × (a ≤ 0xDBFF) }
     ensures { char_told result ≡ pair16 a (drop at s.now) }
 {
     if s.len() - at < 2 {
-        return CharRead::Refused(Refusal::NotText);
+        return Err(Refusal::NotText);
     }
     let b = unit_at(s, at);
     if within(0xDC00, 0xDFFF, b) {
-        return CharRead::Char(0x10000 + (a - 0xD800) * 1024 + (b - 0xDC00), 4);
+        return Ok((0x10000 + (a - 0xD800) * 1024 + (b - 0xDC00), 4));
     }
-    CharRead::Refused(Refusal::NotText)
+    Err(Refusal::NotText)
 }

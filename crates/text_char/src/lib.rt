@@ -7,10 +7,3 @@ pub mod utf16;
 pub mod utf8;
 
 use wire::Refusal;
-
-// One character at a place: its scalar value and how many bytes it took.
-#[derive(Clone, Copy)]
-pub enum CharRead {
-    Char(u32, usize),
-    Refused(Refusal),
-}

@@ -3,28 +3,28 @@ ghost use Rattle.std.specs.Prelude.{◌≡◌, length, drop};
 ghost use Rattle.format.specs.Text.{char16, utf16};
 ghost use Rattle.text_char.specs.Told.{char_told};
 
-use crate::{CharRead, inner};
+use crate::inner;
 use text_lead::within;
 use wire::Refusal;
 
 // The character at a place.
-pub fn char16_at(s: &[u8], at: usize) -> CharRead
+pub fn char16_at(s: &[u8], at: usize) -> Result<(u32, usize), Refusal>
     ensures { char_told result ≡ char16 (drop at s.now) }
 {
     if s.len() < at {
-        return CharRead::Refused(Refusal::NotText);
+        return Err(Refusal::NotText);
     }
     if s.len() - at < 2 {
-        return CharRead::Refused(Refusal::NotText);
+        return Err(Refusal::NotText);
     }
     let first = inner::unit_at(s, at);
     if within(0xD800, 0xDBFF, first) {
         return inner::pair_at(s, at + 2, first);
     }
     if within(0xDC00, 0xDFFF, first) {
-        return CharRead::Refused(Refusal::NotText);
+        return Err(Refusal::NotText);
     }
-    CharRead::Char(first, 2)
+    Ok((first, 2))
 }
 
 // How many bytes a scalar value takes.

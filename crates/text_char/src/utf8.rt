@@ -3,8 +3,8 @@ ghost use Rattle.std.specs.Prelude.{◌≡◌, length, drop};
 ghost use Rattle.format.specs.Text.{char8, utf8};
 ghost use Rattle.text_char.specs.Told.{char_told, stands_in};
 
-use crate::{CharRead, inner};
-use text_lead::{Lead, within};
+use crate::inner;
+use text_lead::within;
 use wire::Refusal;
 
 // Whether a byte from low up to high stands at a place.
@@ -18,20 +18,20 @@ pub fn stands(s: &[u8], at: usize, low: u32, high: u32) -> bool
 }
 
 // The character at a place.
-pub fn char8_at(s: &[u8], at: usize) -> CharRead
+pub fn char8_at(s: &[u8], at: usize) -> Result<(u32, usize), Refusal>
     ensures { char_told result ≡ char8 (drop at s.now) }
 {
     if s.len() <= at {
-        return CharRead::Refused(Refusal::NotText);
+        return Err(Refusal::NotText);
     }
     let a = s[at] as u32;
     if a < 0x80 {
-        return CharRead::Char(a, 1);
+        return Ok((a, 1));
     }
     let row = text_lead::row_of(a);
     match row {
-        Lead::Row(r) => inner::rest8_at(s, at + 1, a, r),
-        Lead::None => CharRead::Refused(Refusal::NotText),
+        Some(r) => inner::rest8_at(s, at + 1, a, r),
+        None => Err(Refusal::NotText),
     }
 }
 

@@ -1,11 +1,10 @@
 -- What this crate's declared types tell, in the words of `format`, and what a row is against the byte that chose it.
+use Rattle.std.specs.Prelude.{None, Option, Some}
 use Rattle.std.specs.Prelude.{ℕ, ◌+◌, ◌≤◌, ◌<◌, List, [], ◌∷◌}
 use Rattle.lists.specs.Pick.{pick}
 use Rattle.format.specs.Text.{between}
 use Rattle.format.specs.Text as T
 use Rattle.text_lead.specs.declared.Row.{Row}
-use Rattle.text_lead.specs.declared.Lead.{Lead}
-use Rattle.text_lead.specs.declared.Lead.TheVariants as L
 
 -- a row of table 3-7 without its first byte's range, which it was chosen by
 abbrev pub row : ℕ → ℕ → ℕ → ℕ → T.Row
@@ -23,9 +22,9 @@ abbrev pub lead_in : List T.Row → ℕ → Chosen
 lead_in [] a = none
 lead_in (r ∷ rs) a = pick (between r.first r.last a) (chosen (row r.marker r.low r.high r.more)) (lead_in rs a)
 
-abbrev pub lead_told : Lead → Chosen
-lead_told (L.Row r) = chosen (row_told r)
-lead_told L.None = none
+abbrev pub lead_told : Option Row → Chosen
+lead_told (Some r) = chosen (row_told r)
+lead_told None = none
 
 -- a row against the first byte that chose it: what the arithmetic of a character needs
 abbrev pub Led : ℕ → T.Row → Type 0

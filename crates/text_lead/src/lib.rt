@@ -17,12 +17,6 @@ pub struct Row {
     pub more: u32,
 }
 
-#[derive(Clone, Copy)]
-pub enum Lead {
-    Row(Row),
-    None,
-}
-
 // Whether n lies from low up to high.
 pub fn within(low: u32, high: u32, n: u32) -> bool
     ensures { result ≡ between low high n }
@@ -34,10 +28,10 @@ pub fn within(low: u32, high: u32, n: u32) -> bool
 }
 
 // A row with these numbers.
-fn row_with(marker: u32, low: u32, high: u32, more: u32) -> Lead
+fn row_with(marker: u32, low: u32, high: u32, more: u32) -> Option<Row>
     ensures { lead_told result ≡ chosen (row marker low high more) }
 {
-    Lead::Row(Row {
+    Some(Row {
         marker,
         low,
         high,
@@ -46,7 +40,7 @@ fn row_with(marker: u32, low: u32, high: u32, more: u32) -> Lead
 }
 
 // The row that a first byte from 80 on chooses.
-pub fn row_of(a: u32) -> Lead
+pub fn row_of(a: u32) -> Option<Row>
     ensures { lead_told result ≡ lead_in well_formed a }
 {
     if within(0xC2, 0xDF, a) {
@@ -73,5 +67,5 @@ pub fn row_of(a: u32) -> Lead
     if within(0xF4, 0xF4, a) {
         return row_with(0xF0, 0x80, 0x8F, 2);
     }
-    Lead::None
+    None
 }

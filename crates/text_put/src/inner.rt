@@ -8,7 +8,7 @@ ghost use Rattle.lists.specs.Put.{put_at};
 ghost use Rattle.std.proofs.lemmas.List.Edits.{sets};
 ghost use Rattle.wire.specs.Told.{Fitting};
 
-use text_char::{CharRead, utf8, utf16};
+use text_char::{utf8, utf16};
 
 // The unit n at a place, low byte first.
 fn put_unit(out: &mut [u8], o: usize, n: u32)
@@ -70,13 +70,12 @@ pub fn write_utf16(s: &[u8], out: &mut [u8])
     let mut at: usize = 0;
     let mut o: usize = 0;
     while at < s.len() {
-        let t = utf8::char8_at(s, at);
-        match t {
-            CharRead::Char(c, k) => {
+        match utf8::char8_at(s, at) {
+            Ok((c, k)) => {
                 o += put_char16(out, o, c);
                 at += k;
             }
-            CharRead::Refused(e) => {
+            Err(_) => {
                 return;
             }
         }
@@ -91,13 +90,12 @@ pub fn write_utf8(u: &[u8], out: &mut [u8])
     let mut at: usize = 0;
     let mut o: usize = 0;
     while at < u.len() {
-        let t = utf16::char16_at(u, at);
-        match t {
-            CharRead::Char(c, k) => {
+        match utf16::char16_at(u, at) {
+            Ok((c, k)) => {
                 o += put_char8(out, o, c);
                 at += k;
             }
-            CharRead::Refused(e) => {
+            Err(_) => {
                 return;
             }
         }

@@ -8,14 +8,14 @@ ghost use Rattle.lists.specs.Pick.{pick};
 ghost use Rattle.format.specs.Answer.{wrote};
 ghost use Rattle.format.specs.Plp.{plp_mark};
 ghost use Rattle.format.specs.Value.{untyped_length, write_untyped};
-ghost use Rattle.wire.specs.Told.{wrote_told};
+ghost use Rattle.wire.specs.Told.{answer_told};
 ghost use Rattle.value_kind.specs.Told.{content_kind_told, span_told, value_told};
 ghost use Rattle.value_kind.specs.Form.{given_of, short_up_to, untyped_head, untyped_limit};
 
 use content_size::content;
 use value_kind::family::ContentKind;
 use value_kind::{Span, Value, kinds};
-use wire::{Wrote, marks};
+use wire::{Refusal, marks};
 
 // The declared length of short content, and up to how many bytes content is short: binary as it is,
 // a string by its UTF-8.
@@ -78,20 +78,20 @@ fn untyped_limit(short: bool) -> u32
 }
 
 // Content with its own descriptor in front: the form goes by the bytes as they were lent.
-pub fn untyped_content(k: ContentKind, p: Span, buffer: &[u8]) -> Wrote
-    ensures { wrote_told result ≡ wrote (write_untyped (given_of (content_kind_told k) (span_told buffer.now p))) }
+pub fn untyped_content(k: ContentKind, p: Span, buffer: &[u8]) -> Result<usize, Refusal>
+    ensures { answer_told result ≡ wrote (write_untyped (given_of (content_kind_told k) (span_told buffer.now p))) }
 {
     let short = is_short(k, p.count);
     content::framed_span(k, p, buffer, untyped_head(k), !short, untyped_limit(short))
 }
 
 // How many bytes the value takes with its own descriptor in front, or why it cannot be written.
-pub fn untyped_size(v: Value, buffer: &[u8]) -> Wrote
-    ensures { wrote_told result ≡ wrote (write_untyped (value_told buffer.now v)) }
+pub fn untyped_size(v: Value, buffer: &[u8]) -> Result<usize, Refusal>
+    ensures { answer_told result ≡ wrote (write_untyped (value_told buffer.now v)) }
 {
     match v {
-        Value::Null => Wrote::Bytes(1),
-        Value::Scalar(s) => Wrote::Bytes(3 + kinds::bytes_of(kinds::kind_of(s))),
+        Value::Null => Ok(1),
+        Value::Scalar(s) => Ok(3 + kinds::bytes_of(kinds::kind_of(s))),
         Value::Binary(p) => untyped_content(ContentKind::Binary, p, buffer),
         Value::String(p) => untyped_content(ContentKind::String, p, buffer),
     }

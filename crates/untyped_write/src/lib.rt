@@ -7,26 +7,21 @@ mod inner;
 ghost use Rattle.std.specs.Prelude.{◌≡◌, length};
 ghost use Rattle.format.specs.Answer.{fitted, wrote, room_after};
 ghost use Rattle.format.specs.Value.{write_untyped};
-ghost use Rattle.wire.specs.Told.{wrote_told};
+ghost use Rattle.wire.specs.Told.{answer_told};
 ghost use Rattle.value_kind.specs.Told.{value_told};
 
 use value_kind::Value;
-use wire::{Refusal, Wrote};
+use wire::Refusal;
 
 // The value with its own descriptor in front, at the front of the room.
-pub fn write_untyped(v: Value, buffer: &[u8], out: &mut [u8]) -> Wrote
-    ensures answer { wrote_told result ≡ wrote (fitted (write_untyped (value_told buffer.now v)) (length out.old)) }
+pub fn write_untyped(v: Value, buffer: &[u8], out: &mut [u8]) -> Result<usize, Refusal>
+    ensures answer { answer_told result ≡ wrote (fitted (write_untyped (value_told buffer.now v)) (length out.old)) }
     ensures room { out.new ≡ room_after (fitted (write_untyped (value_told buffer.now v)) (length out.old)) out.old }
 {
-    let size = untyped_size::untyped_size(v, buffer);
-    match size {
-        Wrote::Bytes(m) => {
-            if out.len() < m {
-                return Wrote::Refused(Refusal::Room);
-            }
-            inner::fill_untyped(v, buffer, &mut out[..m]);
-            Wrote::Bytes(m)
-        }
-        Wrote::Refused(e) => Wrote::Refused(e),
+    let m = untyped_size::untyped_size(v, buffer)?;
+    if out.len() < m {
+        return Err(Refusal::Room);
     }
+    inner::fill_untyped(v, buffer, &mut out[..m]);
+    Ok(m)
 }

@@ -2,10 +2,10 @@
 -- Bytes that stand for a number are the bytes of that number, so a scalar and a length are written as they came; but a bit above 1 is written 1, and PLP
 -- content is written in one chunk.
 -- Assumes nothing.
+use Rattle.std.specs.Prelude.{None, Option, Some}
 use mathlib.Core.Path.{◌≡◌, refl, sym, ap, ◌∙◌}
 use mathlib.Core.Bool.{Bool, true, false}
 use mathlib.Core.List.{List, [], ◌∷◌, ◌++◌}
-use mathlib.Core.Option.{Option, none, some}
 use Prim.Native.Nat.{ℕ, zero, suc, ◌+◌, ◌^◌, ◌<◌, ◌≤◌}
 use native.Mathlib.Nat.{add_comm}
 use native.Mathlib.Numerals.{add-one}
@@ -96,7 +96,7 @@ module _ (s : List ℕ) (at : ℕ) (h : at < length s) where
 
 module _ (k : Kind) (s : List ℕ) (d : ℕ) where
   abbrev fixed_read : Read (List ℕ)
-  fixed_read = normal_in d (some (fixed_width k)) s
+  fixed_read = normal_in d (Some (fixed_width k)) s
 
   pub fixed-inside : IsRead fixed_read → width k ≤ length s
   unfolding read_scalar read_bytes
@@ -117,12 +117,12 @@ module _ (k : Kind) (s : List ℕ) (d : ℕ) where
         ap (λ (l : List ℕ). took l (width k)) (sym f) ∙ fixed-bytes
 
 pub fixed-bit : (k : Kind) (s : List ℕ) (d : ℕ) → k ≡ Kind.bit → 0 < length s
-    → took (scalar_bytes (scalar_of Kind.bit (take 1 s))) 1 ≡ normal_in d (some (fixed_width k)) s
+    → took (scalar_bytes (scalar_of Kind.bit (take 1 s))) 1 ≡ normal_in d (Some (fixed_width k)) s
 fixed-bit k s d e h = rw e (fixed-bytes Kind.bit s d h)
 
 -- ---- behind a length byte
 
-of_width_lem : (ks : List Kind) (n : ℕ) (k : Kind) → of_width ks n ≡ some k → n ≡ width k
+of_width_lem : (ks : List Kind) (n : ℕ) (k : Kind) → of_width ks n ≡ Some k → n ≡ width k
 of_width_lem [] n k h = clash cc
 of_width_lem (a ∷ ks) n k h =
     split (eqb n (width a))
@@ -134,18 +134,18 @@ of_width_lem (a ∷ ks) n k h =
 
 module _ (ks : List Kind) (d x : ℕ) (s : List ℕ) where
   abbrev behind_byte : Read Value → Read (List ℕ)
-  behind_byte r = map_read (encode_family d (some (length_byte ks))) (further 1 r)
+  behind_byte r = map_read (encode_family d (Some (length_byte ks))) (further 1 r)
 
   -- a kind of that width
   record Wide (r : Read Value) : Type 0 where
     pub kind : Kind
-    pub listed : of_width ks x ≡ some kind
+    pub listed : of_width ks x ≡ Some kind
     pub wide : x ≡ width kind
     pub inside : x ≤ length s
     pub is : took (x ∷ scalar_bytes (scalar_of kind (take x s))) (1 + x) ≡ behind_byte r
 
-  wide-scalar : (k : Kind) → of_width ks x ≡ some k → (b : Bool) → ltb d x ≡ b → (a : Bool) → ltb (length s) (width k) ≡ a
-      → IsRead (behind_byte (read_width d x (some k) s)) → Wide (read_width d x (some k) s)
+  wide-scalar : (k : Kind) → of_width ks x ≡ Some k → (b : Bool) → ltb d x ≡ b → (a : Bool) → ltb (length s) (width k) ≡ a
+      → IsRead (behind_byte (read_width d x (Some k) s)) → Wide (read_width d x (Some k) s)
   unfolding read_scalar read_bytes
   wide-scalar k e true t a u i = absurd (rw t at i)
   wide-scalar k e false t true u i = absurd (rw (t, u) at i)
@@ -155,17 +155,17 @@ module _ (ks : List Kind) (d x : ℕ) (s : List ℕ) where
       record { kind = k; listed = e; wide = w; inside = omega arith; is = rw (t, u, w, kind_of_lem k (take (width k) s)) }
 
   wide_read : (o : Option Kind) → of_width ks x ≡ o → IsRead (behind_byte (read_width d x o s)) → Wide (read_width d x o s)
-  wide_read none e i = absurd i
-  wide_read (some k) e i = wide-scalar k e (ltb d x) refl (ltb (length s) (width k)) refl i
+  wide_read None e i = absurd i
+  wide_read (Some k) e i = wide-scalar k e (ltb d x) refl (ltb (length s) (width k)) refl i
 
 -- where a type lists a kind of width 1, is it the bit?
-lists_bit : (l : Listed) → of_width (listed_told l) 1 ≡ some Kind.bit → is_one_of (listed_told l) Kind.bit ≡ true
+lists_bit : (l : Listed) → of_width (listed_told l) 1 ≡ Some Kind.bit → is_one_of (listed_told l) Kind.bit ≡ true
 lists_bit L.Integers h = clash cc
 lists_bit L.Bits h = refl
 lists_bit L.Floats h = clash cc
 lists_bit L.Guids h = clash cc
 
-bit-listed : (l : Listed) → is_one_of (listed_told l) Kind.bit ≡ true → of_width (listed_told l) 1 ≡ some Kind.bit
+bit-listed : (l : Listed) → is_one_of (listed_told l) Kind.bit ≡ true → of_width (listed_told l) 1 ≡ Some Kind.bit
 bit-listed L.Integers h = clash cc
 bit-listed L.Bits h = refl
 bit-listed L.Floats h = clash cc
@@ -173,17 +173,17 @@ bit-listed L.Guids h = clash cc
 
 module _ (l : Listed) (d : ℕ) where
   abbrev listed_read : List ℕ → Read (List ℕ)
-  listed_read s = normal_in d (some (length_byte (listed_told l))) s
+  listed_read s = normal_in d (Some (length_byte (listed_told l))) s
 
   pub listed_there : (s : List ℕ) → IsRead (listed_read s) → 0 < length s
   unfolding then_read read_byte
   listed_there [] i = absurd i
   listed_there (x ∷ s) i = omega arith
 
-  no_bit : (x : ℕ) (k : Kind) → (x ≡ 1 → is_one_of (listed_told l) Kind.bit ≡ false) → of_width (listed_told l) x ≡ some k → x ≡ width k → k ≡ Kind.bit → ⊥
+  no_bit : (x : ℕ) (k : Kind) → (x ≡ 1 → is_one_of (listed_told l) Kind.bit ≡ false) → of_width (listed_told l) x ≡ Some k → x ≡ width k → k ≡ Kind.bit → ⊥
   no_bit x k z e w q =
       let o : x ≡ 1 = w ∙ ap width q in
-      let f : of_width (listed_told l) 1 ≡ some Kind.bit = rw (o, q) at e in
+      let f : of_width (listed_told l) 1 ≡ Some Kind.bit = rw (o, q) at e in
       no_truth (sym (z o) ∙ lists_bit l f)
 
   pub listed_same : (s : List ℕ) → Bytes s → IsRead (listed_read s) → (get_or s 0 0 ≡ 1 → is_one_of (listed_told l) Kind.bit ≡ false)
@@ -214,7 +214,7 @@ module _ (l : Listed) (d : ℕ) where
       go : IsRead (listed_read (1 ∷ s)) → ListedBit (1 ∷ s)
       go j =
           let w = wide_read (listed_told l) d 1 s (of_width (listed_told l) 1) refl j in
-          let q : some w.kind ≡ some Kind.bit = sym w.listed ∙ bit-listed l t in
+          let q : Some w.kind ≡ Some Kind.bit = sym w.listed ∙ bit-listed l t in
           let k : w.kind ≡ Kind.bit = cc in
           let n = w.inside in
           record { inside = omega arith; is = rw k at w.is }
@@ -223,21 +223,21 @@ module _ (l : Listed) (d : ℕ) where
 
 module _ (k : ContentKind) (d : ℕ) (s : List ℕ) where
   abbrev content_read : Read (List ℕ)
-  content_read = normal_in d (some (content k)) s
+  content_read = normal_in d (Some (content k)) s
 
   -- PLP
-  plp_form : eqb d plp_mark ≡ true → (o : Option (List ℕ)) → encode_family d (some (content k)) (content_value k o) ≡ plp_bytes o
-  plp_form e none = rw e
-  plp_form e (some c) = go k
+  plp_form : eqb d plp_mark ≡ true → (o : Option (List ℕ)) → encode_family d (Some (content k)) (content_value k o) ≡ plp_bytes o
+  plp_form e None = rw e
+  plp_form e (Some c) = go k
     where
-      go : (j : ContentKind) → encode_family d (some (content k)) (content_value j (some c)) ≡ plp_bytes (some c)
+      go : (j : ContentKind) → encode_family d (Some (content k)) (content_value j (Some c)) ≡ plp_bytes (Some c)
       go ContentKind.binary = rw e
       go ContentKind.string = rw e
 
   pub plp_normal : eqb d plp_mark ≡ true → map_read plp_bytes (read_plp (is_text k) s) ≡ content_read
   plp_normal e = rw e (go (read_plp (is_text k) s))
     where
-      go : (r : Read (Option (List ℕ))) → map_read plp_bytes r ≡ map_read (encode_family d (some (content k))) (map_read (content_value k) r)
+      go : (r : Read (Option (List ℕ))) → map_read plp_bytes r ≡ map_read (encode_family d (Some (content k))) (map_read (content_value k) r)
       go (took o n) = ap (λ (l : List ℕ). took l n) (sym (plp_form e o))
       go (stops x) = refl
 
@@ -255,7 +255,7 @@ module _ (k : ContentKind) (d : ℕ) (s : List ℕ) where
       two_bytes : low_bytes 2 n ≡ take 2 s
       two_bytes = ap (low_bytes 2) is ∙ low_of 2 (take 2 s) (bytes_take 2 s bytes) (length-take-le 2 s h)
 
-      behind_two : content_read ≡ map_read (encode_family d (some (content k))) (further 2 (read_short k d n (drop 2 s)))
+      behind_two : content_read ≡ map_read (encode_family d (Some (content k))) (further 2 (read_short k d n (drop 2 s)))
       unfolding then_read read_low
       behind_two = rw (e, le-ltb (length s) 2 h, is)
 
@@ -264,10 +264,10 @@ module _ (k : ContentKind) (d : ℕ) (s : List ℕ) where
           let f : low_bytes 2 short_null ≡ take 2 s = ap (low_bytes 2) (sym z) ∙ two_bytes in
           sym (behind_two ∙ rw (eq-eqb n short_null z, e, f))
 
-      short-form : (c : List ℕ) → encode_family d (some (content k)) (content_value k (some c)) ≡ low_bytes 2 (length c) ++ c
+      short-form : (c : List ℕ) → encode_family d (Some (content k)) (content_value k (Some c)) ≡ low_bytes 2 (length c) ++ c
       short-form c = go k
         where
-          go : (j : ContentKind) → encode_family d (some (content k)) (content_value j (some c)) ≡ low_bytes 2 (length c) ++ c
+          go : (j : ContentKind) → encode_family d (Some (content k)) (content_value j (Some c)) ≡ low_bytes 2 (length c) ++ c
           go ContentKind.binary = rw e
           go ContentKind.string = rw e
 
@@ -275,7 +275,7 @@ module _ (k : ContentKind) (d : ℕ) (s : List ℕ) where
       unfolding read_bytes
       short_same z i = go (ltb d n) refl (is_odd (is_text k) n) refl (ltb (length (drop 2 s)) n) refl
         where
-          j : IsRead (map_read (encode_family d (some (content k))) (further 2 (read_short k d n (drop 2 s))))
+          j : IsRead (map_read (encode_family d (Some (content k))) (further 2 (read_short k d n (drop 2 s))))
           j = rw behind_two at i
 
           go : (b : Bool) → ltb d n ≡ b → (o : Bool) → is_odd (is_text k) n ≡ o → (m : Bool) → ltb (length (drop 2 s)) n ≡ m
@@ -286,7 +286,7 @@ module _ (k : ContentKind) (d : ℕ) (s : List ℕ) where
           go false p false q false r =
               let c = take n (drop 2 s) in
               let l : length c ≡ n = length-take-le n (drop 2 s) (ltb-false (length (drop 2 s)) n r) in
-              let f : encode_family d (some (content k)) (content_value k (some c)) ≡ take (2 + n) s =
+              let f : encode_family d (Some (content k)) (content_value k (Some c)) ≡ take (2 + n) s =
               short-form c
               ∙ (ap (λ (m : ℕ). low_bytes 2 m ++ c) l ∙ (ap (λ (x : List ℕ). x ++ c) two_bytes ∙ sym (take-add 2 n s))) in
               sym (behind_two ∙ rw (ne_eqb n short_null z, p, q, r, f))

@@ -1,6 +1,5 @@
 -- What this crate's declared types tell, in the words of `format`: the normal form of the value that the rest of a row begins with.
-use Rattle.std.specs.Prelude.{ℕ, ◌+◌, List, [], ◌∷◌, ◌++◌, take}
-use Rattle.std.proofs.Math.Option.{Option}
+use Rattle.std.specs.Prelude.{ℕ, ◌+◌, List, [], ◌∷◌, ◌++◌, take, Option}
 use Rattle.format.specs.Answer.{Read, took, stops, map_read}
 use Rattle.format.specs.Plp.{read_plp, plp_bytes}
 use Rattle.format.specs.Value.{Family, read_family, encode_family}

@@ -1,7 +1,6 @@
 // Leaves that ask that the rest of a row begins with a value of the family, for the crates of this
 // repository: a row was judged before, so nothing is judged here.
-ghost use Rattle.std.specs.Prelude.{◌≡◌, false, ◌++◌, ℕ, ◌+◌, ◌<◌, eqb, length, take, drop};
-ghost use Rattle.std.proofs.Math.Option.{some};
+ghost use Rattle.std.specs.Prelude.{◌≡◌, false, ◌++◌, ℕ, ◌+◌, ◌<◌, eqb, length, take, drop, Some};
 ghost use Rattle.format.specs.Answer.{took};
 ghost use Rattle.format.specs.Scalar.{scalar_of, scalar_bytes};
 ghost use Rattle.format.specs.Scalar as S;
@@ -30,8 +29,8 @@ fn bit(rest: &[u8], at: usize) -> Form
 
 // A value of a fixed width.
 fn fixed(k: Kind, rest: &[u8]) -> Form
-    requires { (d : ℕ) × IsRead (normal_in d (some (fixed_width (kind_told k))) rest.now) }
-    ensures { (d : ℕ) → form_told rest.now result ≡ normal_in d (some (fixed_width (kind_told k))) rest.now }
+    requires { (d : ℕ) × IsRead (normal_in d (Some (fixed_width (kind_told k))) rest.now) }
+    ensures { (d : ℕ) → form_told rest.now result ≡ normal_in d (Some (fixed_width (kind_told k))) rest.now }
 {
     if kinds::same_kind(k, Kind::Bit) {
         return bit(rest, 0);
@@ -41,8 +40,8 @@ fn fixed(k: Kind, rest: &[u8]) -> Form
 
 // A value behind its length byte.
 fn length_byte(l: Listed, rest: &[u8]) -> Form
-    requires { (d : ℕ) × IsRead (normal_in d (some (length_byte (listed_told l))) rest.now) }
-    ensures { (d : ℕ) → IsRead (normal_in d (some (length_byte (listed_told l))) rest.now) → form_told rest.now result ≡ normal_in d (some (length_byte (listed_told l))) rest.now }
+    requires { (d : ℕ) × IsRead (normal_in d (Some (length_byte (listed_told l))) rest.now) }
+    ensures { (d : ℕ) → IsRead (normal_in d (Some (length_byte (listed_told l))) rest.now) → form_told rest.now result ≡ normal_in d (Some (length_byte (listed_told l))) rest.now }
 {
     let n = rest[0] as usize;
     if n != 1 {
@@ -56,8 +55,8 @@ fn length_byte(l: Listed, rest: &[u8]) -> Form
 
 // Content behind its two length bytes.
 fn short(k: ContentKind, declared: u32, rest: &[u8]) -> Form
-    requires { (eqb declared plp_mark ≡ false) × IsRead (normal_in declared (some (content (content_kind_told k))) rest.now) }
-    ensures { form_told rest.now result ≡ normal_in declared (some (content (content_kind_told k))) rest.now }
+    requires { (eqb declared plp_mark ≡ false) × IsRead (normal_in declared (Some (content (content_kind_told k))) rest.now) }
+    ensures { form_told rest.now result ≡ normal_in declared (Some (content (content_kind_told k))) rest.now }
 {
     let n = wire::inner::low_at(rest, 0, 2) as usize;
     if n == marks::SHORT_NULL as usize {
@@ -68,8 +67,8 @@ fn short(k: ContentKind, declared: u32, rest: &[u8]) -> Form
 
 // Content in the form that its declared length says.
 fn content(k: ContentKind, declared: u32, rest: &[u8]) -> Form
-    requires { IsRead (normal_in declared (some (content (content_kind_told k))) rest.now) }
-    ensures { form_told rest.now result ≡ normal_in declared (some (content (content_kind_told k))) rest.now }
+    requires { IsRead (normal_in declared (Some (content (content_kind_told k))) rest.now) }
+    ensures { form_told rest.now result ≡ normal_in declared (Some (content (content_kind_told k))) rest.now }
 {
     if content::is_plp(declared) {
         let text = family::is_text(k);

@@ -2,10 +2,10 @@
 -- A null and a scalar copy nothing, and neither does content that is not PLP: they need no room, and the room stays. PLP content is what the join counts and
 -- leaves in the room behind what was copied before.
 -- Assumes nothing.
+use Rattle.std.specs.Prelude.{Option, Result, None, Some}
 use mathlib.Core.Path.{◌≡◌, refl, ap, sym, ◌∙◌, subst}
 use mathlib.Core.Bool.{Bool, true, false}
 use mathlib.Core.List.{List, [], ◌++◌}
-use mathlib.Core.Option.{Option, none, some}
 use Prim.Native.Nat.{ℕ, ◌+◌, ◌-◌, ◌≤◌}
 use native.Mathlib.Omega.{arith}
 use lib.Dec.{ltb}
@@ -19,17 +19,18 @@ use Rattle.format.specs.Scalar.{Scalar}
 use Rattle.format.specs.Plp.{read_plp, plp_copied}
 use Rattle.format.specs.Value.{Value, ContentKind, is_text, content_value, content_of, is_plp, copied_out}
 use Rattle.format.specs.Found as F
-use Rattle.plp_join.specs.declared.Joined.{Joined}
 use Rattle.plp_join.specs.Told.{counted, joined_told, join_in}
 use Rattle.value_found.specs.Told.{content_found, behind, room_behind}
+use Rattle.wire.specs.declared.Cursor.{Cursor}
+use Rattle.wire.specs.declared.Refusal as Wire
 
 -- found content, by its count in the room
 abbrev pub found_counted : ContentKind → ℕ → Option ℕ → F.Found
-found_counted k copied none = F.Found.null
-found_counted k copied (some n) = content_found k (F.in_room copied n)
+found_counted k copied None = F.Found.null
+found_counted k copied (Some n) = content_found k (F.in_room copied n)
 
 -- what a join tells of content of a kind
-abbrev pub join_told : ContentKind → ℕ → Joined → Read F.Found
+abbrev pub join_told : ContentKind → ℕ → Result (Option ℕ × Cursor) Wire.Refusal → Read F.Found
 join_told k copied j = map_read (found_counted k copied) (joined_told j)
 
 pub same_found : (n : ℕ) {x y : F.Found} → x ≡ y → took x n ≡ took y n
@@ -57,21 +58,21 @@ module _ (c : D.Column) where
 
   pub copies : is_plp c ≡ true → (k : ContentKind) (o : Option (List ℕ)) → copied_out c (content_value k o) ≡ plp_copied o
   unfolding copied_out
-  copies t k none = rw t
-  copies t ContentKind.binary (some s) = rw t
-  copies t ContentKind.string (some s) = rw t
+  copies t k None = rw t
+  copies t ContentKind.binary (Some s) = rw t
+  copies t ContentKind.string (Some s) = rw t
 
   module _ (at copied : ℕ) where
     pub stands-input : is_plp c ≡ false → (k : ContentKind) (s : List ℕ) →
-        F.found_of c at copied (content_value k (some s)) ≡ content_found k (F.in_input (at + 2) (length s))
+        F.found_of c at copied (content_value k (Some s)) ≡ content_found k (F.in_input (at + 2) (length s))
     stands-input t ContentKind.binary s = rw t
     stands-input t ContentKind.string s = rw t
 
     pub stands-room : is_plp c ≡ true → (k : ContentKind) (o : Option (List ℕ)) → F.found_of c at copied (content_value k o) ≡ found_counted k copied
         (counted o)
-    stands-room t k none = refl
-    stands-room t ContentKind.binary (some s) = rw t
-    stands-room t ContentKind.string (some s) = rw t
+    stands-room t k None = refl
+    stands-room t ContentKind.binary (Some s) = rw t
+    stands-room t ContentKind.string (Some s) = rw t
 
 -- ---- with a room
 
@@ -102,16 +103,16 @@ module _ (c : D.Column) (at copied : ℕ) (out : List ℕ) where
 
   -- content behind the two length bytes
   pub part-found : is_plp c ≡ false → (r : Read Value) (k : ContentKind) (rest : List ℕ) (start count : ℕ) → start ≡ 2 → start + count ≤ length rest
-      → took (content_value k (some (take count (drop start rest)))) (start + count) ≡ r
+      → took (content_value k (Some (take count (drop start rest)))) (start + count) ≡ r
       → Answers (took (content_found k (F.in_input (at + start) count)) (at + (start + count))) out r
   part-found t r k rest start count two inside e =
       let s = take count (drop start rest) in
       let l : length s ≡ count = length-take-le count (drop start rest) (omega (arith, length-drop start rest)) in
-      let f : F.found_of c at copied (content_value k (some s)) ≡ content_found k (F.in_input (at + start) count) =
+      let f : F.found_of c at copied (content_value k (Some s)) ≡ content_found k (F.in_input (at + start) count) =
       stands-input c at copied t k s ∙ ap (λ (p : F.Stand). content_found k p) (rw (l, two)) in
-      let a = kept (content_value k (some s)) (start + count) (none_copied c t (content_value k (some s))) in
+      let a = kept (content_value k (Some s)) (start + count) (none_copied c t (content_value k (Some s))) in
       subst (Answers (took (content_found k (F.in_input (at + start) count)) (at + (start + count))) out) e
-      (subst (λ (x : F.Found). Answers (took x (at + (start + count))) out (took (content_value k (some s)) (start + count))) f a)
+      (subst (λ (x : F.Found). Answers (took x (at + (start + count))) out (took (content_value k (Some s)) (start + count))) f a)
 
   -- PLP content: what the join of it says
   module _ (t : is_plp c ≡ true) (k : ContentKind) where

@@ -1,4 +1,5 @@
 -- What this crate's declared types tell, in the words of `format`: a value by where its content stands.
+use Rattle.std.specs.Prelude.{Err, Ok, Result}
 use Rattle.std.specs.Prelude.{ℕ, ◌-◌, List, ◌++◌, length, take, drop}
 use Rattle.format.specs.Answer.{Read, took, stops, further, map_read, fitted_read, room_after_read}
 use Rattle.format.specs.Descriptor as D
@@ -11,8 +12,8 @@ use Rattle.value_found.specs.declared.Stand.{Stand}
 use Rattle.value_found.specs.declared.Stand.TheVariants as St
 use Rattle.value_found.specs.declared.Found.{Found}
 use Rattle.value_found.specs.declared.Found.TheVariants as Fo
-use Rattle.value_found.specs.declared.ValueRead.{ValueRead}
-use Rattle.value_found.specs.declared.ValueRead.TheVariants as R
+use Rattle.wire.specs.declared.Cursor.{Cursor}
+use Rattle.wire.specs.declared.Refusal.{Refusal}
 
 abbrev pub stand_told : Stand → F.Stand
 stand_told (St.Input p) = F.in_input p.start p.count
@@ -25,9 +26,9 @@ found_told (Fo.Binary p) = F.Found.binary (stand_told p)
 found_told (Fo.String p) = F.Found.string (stand_told p)
 
 -- what was read, and the next place
-abbrev pub value_read_told : ValueRead → Read F.Found
-value_read_told (R.Value f c) = took (found_told f) c.at
-value_read_told (R.Refused e) = stops (refusal_told e)
+abbrev pub value_read_told : Result (Found × Cursor) Refusal → Read F.Found
+value_read_told (Ok (f, c)) = took (found_told f) c.at
+value_read_told (Err e) = stops (refusal_told e)
 
 -- a scalar that was read is the canonical one
 abbrev pub CanonicalFound : Found → Type 0
@@ -36,9 +37,9 @@ CanonicalFound (Fo.Scalar v) = Canonical v
 CanonicalFound (Fo.Binary p) = Unit {0}
 CanonicalFound (Fo.String p) = Unit {0}
 
-abbrev pub CanonicalRead : ValueRead → Type 0
-CanonicalRead (R.Value f c) = CanonicalFound f
-CanonicalRead (R.Refused e) = Unit {0}
+abbrev pub CanonicalRead : Result (Found × Cursor) Refusal → Type 0
+CanonicalRead (Ok (f, c)) = CanonicalFound f
+CanonicalRead (Err e) = Unit {0}
 
 -- ---- what was read of the rest of the input from a place on, with the room behind what was copied before
 

@@ -8,12 +8,11 @@ ghost use Rattle.value_kind.specs.Told.{content_kind_told, family_told};
 ghost use Rattle.value_found.specs.Told.{stand_told, found_told, content_found, value_read_told, CanonicalFound, CanonicalRead};
 ghost use Rattle.value_found.specs.Told.{plp_value, found_behind, room_behind};
 
-use crate::{Found, Stand, ValueRead};
-use plp_join::Joined;
+use crate::{Found, Stand};
 use value_kind::family::{ContentKind, Family};
 use value_kind::{Span, family, kinds};
 use value_look::Seen;
-use wire::Cursor;
+use wire::{Cursor, Refusal};
 
 // Content of a kind by where it stands.
 pub fn content_found(k: ContentKind, p: Stand) -> Found
@@ -27,17 +26,22 @@ pub fn content_found(k: ContentKind, p: Stand) -> Found
 }
 
 // PLP content, its chunks joined in the room behind what was copied before.
-fn join_value(k: ContentKind, rest: &[u8], at: usize, copied: usize, out: &mut [u8]) -> ValueRead
+fn join_value(
+    k: ContentKind,
+    rest: &[u8],
+    at: usize,
+    copied: usize,
+    out: &mut [u8],
+) -> Result<(Found, Cursor), Refusal>
     requires { (at + length rest.now ≤ 18446744073709551615) × (copied ≤ length out.old) }
     ensures told { (c : D.Column) → is_plp c ≡ true → value_read_told result ≡ found_behind c (plp_value (content_kind_told k) rest.now) at copied out.old }
     ensures canonical { CanonicalRead result }
     ensures room { (c : D.Column) → is_plp c ≡ true → out.new ≡ room_behind c (plp_value (content_kind_told k) rest.now) at copied out.old }
 {
     let text = family::is_text(k);
-    let joined = plp_join::inner::join_in(rest, at, text, &mut out[copied..]);
-    match joined {
-        Joined::Null(next) => ValueRead::Value(Found::Null, next),
-        Joined::Content(count, next) => {
+    match plp_join::inner::join_in(rest, at, text, &mut out[copied..])? {
+        (None, next) => Ok((Found::Null, next)),
+        (Some(count), next) => {
             let found = content_found(
                 k,
                 Stand::Room(Span {
@@ -45,9 +49,8 @@ fn join_value(k: ContentKind, rest: &[u8], at: usize, copied: usize, out: &mut [
                     count,
                 }),
             );
-            ValueRead::Value(found, next)
-        }
-        Joined::Refused(e) => ValueRead::Refused(e),
+            Ok((found, next))
+        },
     }
 }
 
@@ -59,20 +62,19 @@ pub fn read_in(
     at: usize,
     copied: usize,
     out: &mut [u8],
-) -> ValueRead
+) -> Result<(Found, Cursor), Refusal>
     requires { (at + length rest.now ≤ 18446744073709551615) × (copied ≤ length out.old) }
     ensures told { (c : D.Column) → c.length ≡ declared → value_read_told result ≡ found_behind c (read_family declared (family_told f) rest.now) at copied out.old }
     ensures canonical { CanonicalRead result }
     ensures room { (c : D.Column) → c.length ≡ declared → out.new ≡ room_behind c (read_family declared (family_told f) rest.now) at copied out.old }
 {
-    let seen = value_look::look(f, declared, rest);
-    match seen {
-        Seen::Null(n) => ValueRead::Value(Found::Null, Cursor { at: at + n }),
+    match value_look::look(f, declared, rest)? {
+        Seen::Null(n) => Ok((Found::Null, Cursor { at: at + n })),
         Seen::Scalar(k, from) => {
             let v = scalar_read::inner::scalar_at(k, rest, from);
             let next = at + (from + kinds::bytes_of(k));
-            ValueRead::Value(Found::Scalar(v), Cursor { at: next })
-        }
+            Ok((Found::Scalar(v), Cursor { at: next }))
+        },
         Seen::Part(k, start, count) => {
             let found = content_found(
                 k,
@@ -82,9 +84,8 @@ pub fn read_in(
                 }),
             );
             let next = at + (start + count);
-            ValueRead::Value(found, Cursor { at: next })
-        }
+            Ok((found, Cursor { at: next }))
+        },
         Seen::Plp(k) => join_value(k, rest, at, copied, out),
-        Seen::Refused(e) => ValueRead::Refused(e),
     }
 }

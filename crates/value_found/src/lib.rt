@@ -23,10 +23,3 @@ pub enum Found {
     Binary(Stand),
     String(Stand),
 }
-
-// The value at a place and the next place, or why there is none.
-#[derive(Clone, Copy)]
-pub enum ValueRead {
-    Value(Found, Cursor),
-    Refused(Refusal),
-}

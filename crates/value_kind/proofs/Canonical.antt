@@ -21,7 +21,7 @@ use Rattle.bits.specs.Told.{float32_of, float64_of}
 use Rattle.bits.proofs.Floats.{float32_back, float64_back}
 use Rattle.value_kind.specs.declared.Scalar.{Scalar}
 use Rattle.value_kind.specs.declared.Scalar.TheVariants as C
-use Rattle.value_kind.specs.Told.{scalar_told, IsFloat, Canonical}
+use Rattle.value_kind.specs.Told.{scalar_told, made32, made64, IsFloat, Canonical}
 
 -- ---- the canonical scalar of what is told
 
@@ -68,36 +68,26 @@ is_float f n x t e b =
     let d : to_bits f x ≡ n = sym (ap (to_bits f) e) ∙ b in
     (d, (ap (nan_bits f) d ∙ t, ap (of_bits f) d ∙ e))
 
-module _ (n : ℕ) (h : n < 2 ^ 32) where
-  pub float32-value : (x : Float) → F32.Value x ≡ float32_of n → (to_bits binary32 x ≡ n) × Canonical (C.F32 x)
-  float32-value x e = go (nan_bits binary32 n) refl
-    where
-      go : (b : Bool) → nan_bits binary32 n ≡ b → (to_bits binary32 x ≡ n) × IsFloat binary32 x
-      go true t = clash (cc (rw t at e))
-      go false t =
-          let q : of_bits binary32 n ≡ x = cc (rw t at e) in
-          is_float binary32 n x t q (rw t at (float32_back n h))
-
-pub float32_nan : (n m : ℕ) → F32.Nan m ≡ float32_of n → (m ≡ n) × Canonical (C.F32Nan m)
-float32_nan n m e = go (nan_bits binary32 n) refl
+pub float32_read : (n : ℕ) → n < 2 ^ 32 → (scalar_told (made32 (float32_of n)) ≡ S.Scalar.f32 n) × Canonical (made32 (float32_of n))
+float32_read n h = go (nan_bits binary32 n) refl
   where
-    go : (b : Bool) → nan_bits binary32 n ≡ b → (m ≡ n) × (nan_bits binary32 m ≡ true)
-    go true t = let q : m ≡ n = cc (rw t at e) in (q, ap (nan_bits binary32) q ∙ t)
-    go false t = clash (cc (rw t at e))
+    read : Bool → Scalar
+    read b = made32 (pick b (F32.Nan n) (F32.Value (of_bits binary32 n)))
 
-module _ (n : ℕ) (h : n < 2 ^ 64) where
-  pub float64-value : (x : Float) → F64.Value x ≡ float64_of n → (to_bits binary64 x ≡ n) × Canonical (C.F64 x)
-  float64-value x e = go (nan_bits binary64 n) refl
-    where
-      go : (b : Bool) → nan_bits binary64 n ≡ b → (to_bits binary64 x ≡ n) × IsFloat binary64 x
-      go true t = clash (cc (rw t at e))
-      go false t =
-          let q : of_bits binary64 n ≡ x = cc (rw t at e) in
-          is_float binary64 n x t q (rw t at (float64_back n h))
+    go : (b : Bool) → nan_bits binary32 n ≡ b → (scalar_told (read b) ≡ S.Scalar.f32 n) × Canonical (read b)
+    go true t = (refl, t)
+    go false t =
+        let p = is_float binary32 n (of_bits binary32 n) t refl (rw t at (float32_back n h)) in
+        (ap S.Scalar.f32 p.0, p.1)
 
-pub float64_nan : (n m : ℕ) → F64.Nan m ≡ float64_of n → (m ≡ n) × Canonical (C.F64Nan m)
-float64_nan n m e = go (nan_bits binary64 n) refl
+pub float64_read : (n : ℕ) → n < 2 ^ 64 → (scalar_told (made64 (float64_of n)) ≡ S.Scalar.f64 n) × Canonical (made64 (float64_of n))
+float64_read n h = go (nan_bits binary64 n) refl
   where
-    go : (b : Bool) → nan_bits binary64 n ≡ b → (m ≡ n) × (nan_bits binary64 m ≡ true)
-    go true t = let q : m ≡ n = cc (rw t at e) in (q, ap (nan_bits binary64) q ∙ t)
-    go false t = clash (cc (rw t at e))
+    read : Bool → Scalar
+    read b = made64 (pick b (F64.Nan n) (F64.Value (of_bits binary64 n)))
+
+    go : (b : Bool) → nan_bits binary64 n ≡ b → (scalar_told (read b) ≡ S.Scalar.f64 n) × Canonical (read b)
+    go true t = (refl, t)
+    go false t =
+        let p = is_float binary64 n (of_bits binary64 n) t refl (rw t at (float64_back n h)) in
+        (ap S.Scalar.f64 p.0, p.1)

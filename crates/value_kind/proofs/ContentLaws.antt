@@ -1,9 +1,9 @@
 -- Binary and string content under a type and without one is content within a bound, in one of two forms, behind a head: the one path that the code takes.
 -- Assumes nothing.
+use Rattle.std.specs.Prelude.{Some}
 use mathlib.Core.Path.{◌≡◌, refl, sym, ap, ◌∙◌}
 use mathlib.Core.Bool.{Bool, true, false, not}
 use mathlib.Core.List.{List, [], ◌∷◌}
-use mathlib.Core.Option.{some}
 use Prim.Native.Nat.{ℕ, ◌+◌, ◌<◌, ◌≤◌}
 use native.Mathlib.Omega.{arith}
 use lib.ListN.{length, take, drop, length-append, length-take, length-drop}
@@ -30,15 +30,15 @@ same_content_lem ContentKind.string ContentKind.binary h = clash cc
 same_content_lem ContentKind.string ContentKind.string h = refl
 
 module _ (d : ℕ) (p : Part) where
-  pub no_fixed : (f : Kind) (k : ContentKind) → write_family d (some (fixed_width f)) (given_of k p) ≡ refuses kind
+  pub no_fixed : (f : Kind) (k : ContentKind) → write_family d (Some (fixed_width f)) (given_of k p) ≡ refuses kind
   no_fixed f ContentKind.binary = refl
   no_fixed f ContentKind.string = refl
 
-  pub no_listed : (fs : List Kind) (k : ContentKind) → write_family d (some (length_byte fs)) (given_of k p) ≡ refuses kind
+  pub no_listed : (fs : List Kind) (k : ContentKind) → write_family d (Some (length_byte fs)) (given_of k p) ≡ refuses kind
   no_listed fs ContentKind.binary = refl
   no_listed fs ContentKind.string = refl
 
-  pub other_content : (j k : ContentKind) → false ≡ same_content j k → write_family d (some (content j)) (given_of k p) ≡ refuses kind
+  pub other_content : (j k : ContentKind) → false ≡ same_content j k → write_family d (Some (content j)) (given_of k p) ≡ refuses kind
   other_content ContentKind.binary ContentKind.binary h = clash cc
   other_content ContentKind.binary ContentKind.string h = refl
   other_content ContentKind.string ContentKind.binary h = refl
@@ -46,18 +46,18 @@ module _ (d : ℕ) (p : Part) where
 
 -- null in its form
 module _ (d : ℕ) (k : ContentKind) where
-  pub null_plp : eqb d plp_mark ≡ true → write_family d (some (content k)) Given.null ≡ gives (low_bytes 8 plp_null)
+  pub null_plp : eqb d plp_mark ≡ true → write_family d (Some (content k)) Given.null ≡ gives (low_bytes 8 plp_null)
   unfolding plp_bytes
   null_plp e = rw e
 
-  pub null-short : eqb d plp_mark ≡ false → write_family d (some (content k)) Given.null ≡ gives (low_bytes 2 short_null)
+  pub null-short : eqb d plp_mark ≡ false → write_family d (Some (content k)) Given.null ≡ gives (low_bytes 2 short_null)
   null-short e = rw e
 
 -- the form goes by the mark
-in_form_lem : (d : ℕ) (c : List ℕ) → encode_content d (some c) ≡ formed (eqb d plp_mark) c
+in_form_lem : (d : ℕ) (c : List ℕ) → encode_content d (Some c) ≡ formed (eqb d plp_mark) c
 in_form_lem d c = go (eqb d plp_mark)
   where
-    go : (b : Bool) → pick b (plp_bytes (some c)) (formed false c) ≡ formed b c
+    go : (b : Bool) → pick b (plp_bytes (Some c)) (formed false c) ≡ formed b c
     go true = refl
     go false = refl
 
@@ -68,7 +68,7 @@ text-bounded d (gives c) = ap (λ (l : List ℕ). refuse_if (ltb (content_bound 
 text-bounded d (refuses e) = refl
 
 pub content-framed : (d : ℕ) (k : ContentKind) (p : Part) →
-    write_family d (some (content k)) (given_of k p) ≡ and_then (encoded_part k p) (framed [] (eqb d plp_mark) (content_bound d))
+    write_family d (Some (content k)) (given_of k p) ≡ and_then (encoded_part k p) (framed [] (eqb d plp_mark) (content_bound d))
 unfolding framed
 content-framed d ContentKind.binary (inside s) = ap (λ (l : List ℕ). refuse_if (ltb (content_bound d) (length s)) long (gives l)) (in_form_lem d s)
 content-framed d ContentKind.binary outside = refl
@@ -77,7 +77,7 @@ content-framed d ContentKind.string outside = refl
 
 -- the same by other names for the form and the bound
 pub content-size : (d : ℕ) (j k : ContentKind) (p : Part) (plp : Bool) (bound : ℕ) (x : Answer ℕ) → j ≡ k → plp ≡ eqb d plp_mark → bound ≡ content_bound d
-    → x ≡ wrote (and_then (encoded_part k p) (framed [] plp bound)) → x ≡ wrote (write_family d (some (content j)) (given_of k p))
+    → x ≡ wrote (and_then (encoded_part k p) (framed [] plp bound)) → x ≡ wrote (write_family d (Some (content j)) (given_of k p))
 content-size d j k p plp bound x i e f h = rw (e, f) at h ∙ rw (i, content-framed d k p)
 
 -- ---- without a type

@@ -1,9 +1,9 @@
 -- Content in its form, filled into room of the form's size: the stores in their order are one run, the form's bytes.
 -- Assumes nothing.
+use Rattle.std.specs.Prelude.{None, Option, Some}
 use mathlib.Core.Path.{◌≡◌, refl, sym, ap, ◌∙◌}
 use mathlib.Core.Bool.{Bool, true, false, not}
 use mathlib.Core.List.{List, [], ◌++◌}
-use mathlib.Core.Option.{Option, none, some}
 use Prim.Native.Nat.{ℕ, suc, ◌+◌, ◌-◌, ◌≤◌}
 use native.Mathlib.Omega.{arith}
 use native.Mathlib.Nat.{zero-add}
@@ -92,19 +92,19 @@ head_filled head plp a out one ys new m h i w e s =
 -- ---- under a family, and without a type
 
 module _ (d : ℕ) (p : Part) (n : ℕ) where
-  kept-form : (k : ContentKind) → gives n ≡ wrote (write_family d (some (content k)) (given_of k p)) →
-      write_family d (some (content k)) (given_of k p) ≡ in_form (eqb d plp_mark) (encoded_part k p)
+  kept-form : (k : ContentKind) → gives n ≡ wrote (write_family d (Some (content k)) (given_of k p)) →
+      write_family d (Some (content k)) (given_of k p) ≡ in_form (eqb d plp_mark) (encoded_part k p)
   kept-form k h = let e = content-framed d k p in e ∙ framed-written [] (eqb d plp_mark) (content_bound d) (encoded_part k p) n (h ∙ ap wrote e)
 
   pub content-written : (f : Option Family) (k : ContentKind) → gives n ≡ wrote (write_family d f (given_of k p)) →
       write_family d f (given_of k p) ≡ in_form (eqb d plp_mark) (encoded_part k p)
-  content-written none k h = not_refused not_carried n h
-  content-written (some (fixed_width w)) k h = not_refused kind n (h ∙ ap wrote (no_fixed d p w k))
-  content-written (some (length_byte ws)) k h = not_refused kind n (h ∙ ap wrote (no_listed d p ws k))
-  content-written (some (content ContentKind.binary)) ContentKind.binary h = kept-form ContentKind.binary h
-  content-written (some (content ContentKind.binary)) ContentKind.string h = not_refused kind n h
-  content-written (some (content ContentKind.string)) ContentKind.binary h = not_refused kind n h
-  content-written (some (content ContentKind.string)) ContentKind.string h = kept-form ContentKind.string h
+  content-written None k h = not_refused not_carried n h
+  content-written (Some (fixed_width w)) k h = not_refused kind n (h ∙ ap wrote (no_fixed d p w k))
+  content-written (Some (length_byte ws)) k h = not_refused kind n (h ∙ ap wrote (no_listed d p ws k))
+  content-written (Some (content ContentKind.binary)) ContentKind.binary h = kept-form ContentKind.binary h
+  content-written (Some (content ContentKind.binary)) ContentKind.string h = not_refused kind n h
+  content-written (Some (content ContentKind.string)) ContentKind.binary h = not_refused kind n h
+  content-written (Some (content ContentKind.string)) ContentKind.string h = kept-form ContentKind.string h
 
 module _ (buffer : List ℕ) (start count n : ℕ) (k : ContentKind) where
   pub span-lies : (plp : Bool) → gives n ≡ wrote (in_form plp (encoded_part k (part buffer start count))) → start + count ≤ length buffer

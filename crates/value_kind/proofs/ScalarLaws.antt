@@ -1,9 +1,9 @@
 -- The bytes of a value of a fixed width: the low bytes of its number, but for a GUID; as many as its kind is wide.
 -- Assumes nothing.
+use Rattle.std.specs.Prelude.{Some}
 use mathlib.Core.Path.{◌≡◌, refl, ap, ◌∙◌}
 use mathlib.Core.Bool.{Bool, true, false, not}
 use mathlib.Core.List.{List, ◌∷◌}
-use mathlib.Core.Option.{some}
 use Prim.Native.Nat.{ℕ, suc, ◌+◌, ◌≤◌, ◌<◌}
 use native.Mathlib.Omega.{arith}
 use lib.ListN.{length}
@@ -66,13 +66,13 @@ wrote_if false e a = refl
 
 module _ (d : ℕ) (s : Scalar) where
   pub fixed-scalar : (k : S.Kind) →
-      wrote (write_family d (some (fixed_width k)) (Given.scalar (scalar_told s)))
+      wrote (write_family d (Some (fixed_width k)) (Given.scalar (scalar_told s)))
       ≡ refuse_if (not (same_kind (kind_of (scalar_told s)) k)) kind (gives (width (kind_of (scalar_told s))))
   unfolding wrote
   fixed-scalar k = wrote_if (not (same_kind (kind_of (scalar_told s)) k)) kind (gives (scalar_bytes (scalar_told s))) ∙ rw (length-bytes s)
 
   pub listed-scalar : (ks : List S.Kind) →
-      wrote (write_family d (some (length_byte ks)) (Given.scalar (scalar_told s)))
+      wrote (write_family d (Some (length_byte ks)) (Given.scalar (scalar_told s)))
       ≡ refuse_if (not (is_one_of ks (kind_of (scalar_told s)))) kind
       (refuse_if (ltb d (width (kind_of (scalar_told s)))) long (gives (1 + width (kind_of (scalar_told s)))))
   unfolding wrote
@@ -84,12 +84,12 @@ module _ (d : ℕ) (s : Scalar) where
       (wrote_if (ltb d (width (kind_of v))) long (gives (width (kind_of v) ∷ scalar_bytes v)) ∙ rw (length-bytes s, n))
 
   -- what can be written has passed its checks
-  pub fixed-written : (k : S.Kind) (n : ℕ) → gives n ≡ wrote (write_family d (some (fixed_width k)) (Given.scalar (scalar_told s))) →
-      write_family d (some (fixed_width k)) (Given.scalar (scalar_told s)) ≡ gives (scalar_bytes (scalar_told s))
+  pub fixed-written : (k : S.Kind) (n : ℕ) → gives n ≡ wrote (write_family d (Some (fixed_width k)) (Given.scalar (scalar_told s))) →
+      write_family d (Some (fixed_width k)) (Given.scalar (scalar_told s)) ≡ gives (scalar_bytes (scalar_told s))
   fixed-written k n h = check_passed (not (same_kind (kind_of (scalar_told s)) k)) kind (gives (scalar_bytes (scalar_told s))) n h
 
-  pub listed-written : (ks : List S.Kind) (n : ℕ) → gives n ≡ wrote (write_family d (some (length_byte ks)) (Given.scalar (scalar_told s))) →
-      write_family d (some (length_byte ks)) (Given.scalar (scalar_told s)) ≡ gives (width (kind_of (scalar_told s)) ∷ scalar_bytes (scalar_told s))
+  pub listed-written : (ks : List S.Kind) (n : ℕ) → gives n ≡ wrote (write_family d (Some (length_byte ks)) (Given.scalar (scalar_told s))) →
+      write_family d (Some (length_byte ks)) (Given.scalar (scalar_told s)) ≡ gives (width (kind_of (scalar_told s)) ∷ scalar_bytes (scalar_told s))
   listed-written ks n h =
       let v = scalar_told s in
       let long-checked = refuse_if (ltb d (width (kind_of v))) long (gives (width (kind_of v) ∷ scalar_bytes v)) in

@@ -1,7 +1,6 @@
 -- Binary and string content along one path: how content is written, in which form, behind which bytes and within which bound.
 -- Second definitions, as the code goes; proofs/ContentLaws.antt ties them to those of `format`.
-use Rattle.std.specs.Prelude.{ℕ, List, ◌∷◌, ◌++◌, Bool, true, false, length, ltb}
-use Rattle.std.proofs.Math.Option.{some}
+use Rattle.std.specs.Prelude.{ℕ, List, ◌∷◌, ◌++◌, Bool, true, false, length, ltb, Some}
 use Rattle.lists.specs.Pick.{pick}
 use Rattle.format.specs.Answer.{Answer, gives, refuses, missing, long, refuse_if, and_then, Part, inside, outside}
 use Rattle.format.specs.Number.{low_bytes}
@@ -32,7 +31,7 @@ encoded_part k outside = refuses missing
 
 -- the two forms: PLP, or two length bytes and the content
 abbrev pub formed : Bool → List ℕ → List ℕ
-formed true c = plp_bytes (some c)
+formed true c = plp_bytes (Some c)
 formed false c = short_bytes c
 
 abbrev pub in_form : Bool → Answer (List ℕ) → Answer (List ℕ)

@@ -1,6 +1,5 @@
 -- What this crate's declared types tell, in the words of `format`.
-use Rattle.std.specs.Prelude.{ℕ, ◌^◌, ◌<◌, ◌≡◌, true, false, List, [], ◌∷◌, Float}
-use Rattle.std.proofs.Math.Option.{Option, none, some}
+use Rattle.std.specs.Prelude.{ℕ, ◌^◌, ◌<◌, ◌≡◌, true, false, List, [], ◌∷◌, Float, None, Option, Some}
 use Rattle.std.specs.Float.{Format, binary32, binary64}
 use Rattle.std.specs.Float.Ieee.{nan_bits, of_bits, to_bits}
 use Rattle.lists.specs.Pick.{pick}
@@ -9,6 +8,10 @@ use Rattle.format.specs.Number.{unsigned}
 use Rattle.format.specs.Scalar as S
 use Rattle.format.specs.Value as Values
 use Rattle.wire.specs.Told.{guid_bytes}
+use Rattle.bits.specs.declared.float.Float32.{Float32}
+use Rattle.bits.specs.declared.float.Float32.TheVariants as F32
+use Rattle.bits.specs.declared.float.Float64.{Float64}
+use Rattle.bits.specs.declared.float.Float64.TheVariants as F64
 use Rattle.value_kind.specs.declared.Scalar.{Scalar}
 use Rattle.value_kind.specs.declared.Scalar.TheVariants as C
 use Rattle.value_kind.specs.declared.Span.{Span}
@@ -47,6 +50,15 @@ scalar_told (C.F32Nan n) = S.Scalar.f32 n
 scalar_told (C.F64 x) = S.Scalar.f64 (to_bits binary64 x)
 scalar_told (C.F64Nan n) = S.Scalar.f64 n
 scalar_told (C.Guid g) = S.Scalar.guid (guid_bytes g)
+
+-- a float, or a NaN by its pattern
+abbrev pub made32 : Float32 → Scalar
+made32 (F32.Value x) = C.F32 x
+made32 (F32.Nan n) = C.F32Nan n
+
+abbrev pub made64 : Float64 → Scalar
+made64 (F64.Value x) = C.F64 x
+made64 (F64.Nan n) = C.F64Nan n
 
 -- Two cases may tell the same bits, a float's and a NaN's. A reader gives the one that is theirs: "NaN patterns by their bits" are the NaN case and only that;
 -- a float is the one that its bits stand for; a GUID's two numbers have eight bytes each.
@@ -89,10 +101,10 @@ content_kind_told CK.Binary = Values.ContentKind.binary
 content_kind_told CK.String = Values.ContentKind.string
 
 abbrev pub family_told : Family → Option Values.Family
-family_told (F.Fixed k) = some (Values.fixed_width (kind_told k))
-family_told (F.LengthByte l) = some (Values.length_byte (listed_told l))
-family_told (F.Content k) = some (Values.content (content_kind_told k))
-family_told F.NotCarried = none
+family_told (F.Fixed k) = Some (Values.fixed_width (kind_told k))
+family_told (F.LengthByte l) = Some (Values.length_byte (listed_told l))
+family_told (F.Content k) = Some (Values.content (content_kind_told k))
+family_told F.NotCarried = None
 
 -- ---- a value to be written, its content a part of the lent buffer
 

@@ -1,10 +1,10 @@
 -- What the rest of a row begins with, by places and counts: each check of the definition on plain numbers, in document 01's order.
 -- Behind a length byte or two length bytes the definition is given the bytes that they left; a place in those is one or two further in the whole rest.
 -- Assumes nothing.
+use Rattle.std.specs.Prelude.{None, Some}
 use mathlib.Core.Path.{◌≡◌, refl, sym, ap, ◌∙◌}
 use mathlib.Core.Bool.{true, false}
 use mathlib.Core.List.{List, [], ◌∷◌}
-use mathlib.Core.Option.{none, some}
 use Prim.Native.Nat.{ℕ, ◌+◌, ◌<◌, ◌≤◌}
 use native.Mathlib.Nat.{zero-add}
 use native.Mathlib.Omega.{arith}
@@ -64,13 +64,13 @@ module _ (ks : List Kind) (declared : ℕ) (s : List ℕ) (h : 0 < length s) whe
   byte-null z = sym (front ∙ rw (eq-eqb n 0 z))
 
   module _ (z : n ≡ 0 → ⊥) where
-    pub byte_unlisted : none ≡ of_width ks n → stops sequence ≡ then_read read_byte (read_length_byte ks declared) s
+    pub byte_unlisted : None ≡ of_width ks n → stops sequence ≡ then_read read_byte (read_length_byte ks declared) s
     byte_unlisted e = sym (front ∙ rw (ne_eqb n 0 z, ← e))
 
-    pub byte-long : (k : Kind) → some k ≡ of_width ks n → declared < n → stops long ≡ then_read read_byte (read_length_byte ks declared) s
+    pub byte-long : (k : Kind) → Some k ≡ of_width ks n → declared < n → stops long ≡ then_read read_byte (read_length_byte ks declared) s
     byte-long k e l = sym (front ∙ rw (ne_eqb n 0 z, ← e, lt-ltb declared n l))
 
-    pub byte_scalar : (k : Kind) → some k ≡ of_width ks n → n ≤ declared →
+    pub byte_scalar : (k : Kind) → Some k ≡ of_width ks n → n ≤ declared →
         further 1 (map_read Value.scalar (read_scalar k (drop 1 s))) ≡ then_read read_byte (read_length_byte ks declared) s
     byte_scalar k e l = sym (front ∙ rw (ne_eqb n 0 z, ← e, le-ltb declared n l))
 
@@ -106,7 +106,7 @@ module _ (k : ContentKind) (declared : ℕ) (s : List ℕ) (n : ℕ) (is : n ≡
           let t : ltb (length (drop 2 s)) n ≡ true = lt-ltb (length (drop 2 s)) n (omega arith) in
           sym (behind-length ∙ rw (ne_eqb n short_null z, le-ltb declared n l, o, t))
 
-      pub short_there : is_odd (is_text k) n ≡ false → 2 + n ≤ length s → took (content_value k (some (take n (drop 2 s)))) (2 + n) ≡ shortly
+      pub short_there : is_odd (is_text k) n ≡ false → 2 + n ≤ length s → took (content_value k (Some (take n (drop 2 s)))) (2 + n) ≡ shortly
       unfolding read_bytes
       short_there o m =
           let d = length-drop 2 s in

@@ -4,8 +4,7 @@
 
 mod listed;
 
-ghost use Rattle.std.specs.Prelude.{◌≡◌, false, ℕ, eqb, drop};
-ghost use Rattle.std.proofs.Math.Option.{some};
+ghost use Rattle.std.specs.Prelude.{◌≡◌, false, ℕ, eqb, drop, Some};
 ghost use Rattle.format.specs.Answer.{further, then_read, map_read};
 ghost use Rattle.format.specs.Number.{read_low};
 ghost use Rattle.format.specs.Scalar.{read_scalar};
@@ -15,56 +14,53 @@ ghost use Rattle.value_kind.specs.Told.{kind_told, listed_told, content_kind_tol
 ghost use Rattle.value_look.specs.Told.{seen_told, Lies};
 
 use content_size::content;
-use listed::ListedKind;
 use value_kind::family::{ContentKind, Family};
 use value_kind::kinds;
 use value_kind::kinds::{Kind, Listed};
 use wire::{Refusal, marks};
 
 // A null of so many bytes; a kind and where its bytes start; content of a kind, where it starts and
-// how many bytes it has; PLP content; or a refusal. Places count from the value's first byte.
+// how many bytes it has; or PLP content. Places count from the value's first byte.
 #[derive(Clone, Copy)]
 pub enum Seen {
     Null(usize),
     Scalar(Kind, usize),
     Part(ContentKind, usize, usize),
     Plp(ContentKind),
-    Refused(Refusal),
 }
 
 // A value of the kind from a place on.
-fn scalar(k: Kind, rest: &[u8], at: usize) -> Seen
+fn scalar(k: Kind, rest: &[u8], at: usize) -> Result<Seen, Refusal>
     ensures told { seen_told rest.now result ≡ further at (map_read Value.scalar (read_scalar (kind_told k) (drop at rest.now))) }
     ensures lies { (d : ℕ) → Lies d rest.now result }
 {
     if wire::inside(rest, at, kinds::bytes_of(k)) {
-        return Seen::Scalar(k, at);
+        return Ok(Seen::Scalar(k, at));
     }
-    Seen::Refused(Refusal::Missing)
+    Err(Refusal::Missing)
 }
 
 // A value behind its length byte: 0 is null, any other must be the width of a listed kind, and no
 // more than the declared length.
-fn length_byte(l: Listed, declared: u32, rest: &[u8]) -> Seen
-    ensures told { seen_told rest.now result ≡ read_family declared (some (length_byte (listed_told l))) rest.now }
+fn length_byte(l: Listed, declared: u32, rest: &[u8]) -> Result<Seen, Refusal>
+    ensures told { seen_told rest.now result ≡ read_family declared (Some (length_byte (listed_told l))) rest.now }
     ensures lies { Lies declared rest.now result }
 {
     if rest.len() == 0 {
-        return Seen::Refused(Refusal::Missing);
+        return Err(Refusal::Missing);
     }
     let n = rest[0];
     if n == 0 {
-        return Seen::Null(1);
+        return Ok(Seen::Null(1));
     }
-    let wide = listed::of_width(l, n);
-    match wide {
-        ListedKind::Kind(k) => {
+    match listed::of_width(l, n) {
+        Some(k) => {
             if declared < n as u32 {
-                return Seen::Refused(Refusal::Long);
+                return Err(Refusal::Long);
             }
             scalar(k, rest, 1)
         }
-        ListedKind::Unlisted => Seen::Refused(Refusal::Sequence),
+        None => Err(Refusal::Sequence),
     }
 }
 
@@ -84,42 +80,42 @@ fn is_odd(k: ContentKind, n: usize) -> bool
 }
 
 // Content behind its two length bytes.
-fn short(k: ContentKind, declared: u32, rest: &[u8]) -> Seen
+fn short(k: ContentKind, declared: u32, rest: &[u8]) -> Result<Seen, Refusal>
     ensures told { seen_told rest.now result ≡ then_read (read_low 2) (read_short (content_kind_told k) declared) rest.now }
     ensures lies { eqb declared plp_mark ≡ false → Lies declared rest.now result }
 {
     if rest.len() < 2 {
-        return Seen::Refused(Refusal::Missing);
+        return Err(Refusal::Missing);
     }
     let n = wire::inner::low_at(rest, 0, 2) as usize;
     if n == marks::SHORT_NULL as usize {
-        return Seen::Null(2);
+        return Ok(Seen::Null(2));
     }
     if (declared as usize) < n {
-        return Seen::Refused(Refusal::Long);
+        return Err(Refusal::Long);
     }
     if is_odd(k, n) {
-        return Seen::Refused(Refusal::Sequence);
+        return Err(Refusal::Sequence);
     }
     if rest.len() - 2 < n {
-        return Seen::Refused(Refusal::Missing);
+        return Err(Refusal::Missing);
     }
-    Seen::Part(k, 2, n)
+    Ok(Seen::Part(k, 2, n))
 }
 
 // Content in the form that its declared length says.
-fn content(k: ContentKind, declared: u32, rest: &[u8]) -> Seen
-    ensures told { seen_told rest.now result ≡ read_family declared (some (content (content_kind_told k))) rest.now }
+fn content(k: ContentKind, declared: u32, rest: &[u8]) -> Result<Seen, Refusal>
+    ensures told { seen_told rest.now result ≡ read_family declared (Some (content (content_kind_told k))) rest.now }
     ensures lies { Lies declared rest.now result }
 {
     if content::is_plp(declared) {
-        return Seen::Plp(k);
+        return Ok(Seen::Plp(k));
     }
     short(k, declared, rest)
 }
 
 // What the rest of the row, from the value's first byte, begins with.
-pub fn look(f: Family, declared: u32, rest: &[u8]) -> Seen
+pub fn look(f: Family, declared: u32, rest: &[u8]) -> Result<Seen, Refusal>
     ensures told { seen_told rest.now result ≡ read_family declared (family_told f) rest.now }
     ensures lies { Lies declared rest.now result }
 {
@@ -127,6 +123,6 @@ pub fn look(f: Family, declared: u32, rest: &[u8]) -> Seen
         Family::Fixed(k) => scalar(k, rest, 0),
         Family::LengthByte(l) => length_byte(l, declared, rest),
         Family::Content(k) => content(k, declared, rest),
-        Family::NotCarried => Seen::Refused(Refusal::NotCarried),
+        Family::NotCarried => Err(Refusal::NotCarried),
     }
 }

@@ -7,51 +7,44 @@ ghost use Rattle.value_look.specs.Told.{listed_kind_told};
 use value_kind::kinds;
 use value_kind::kinds::{Kind, Listed};
 
-// The kind of a width, or none that the type lists.
-#[derive(Clone, Copy)]
-pub enum ListedKind {
-    Kind(Kind),
-    Unlisted,
-}
-
 // The kind where the width is its own.
-fn only(k: Kind, n: u8) -> ListedKind
+fn only(k: Kind, n: u8) -> Option<Kind>
     ensures { listed_kind_told result ≡ of_width (kind_told k ∷ []) n }
 {
     if n as usize == kinds::bytes_of(k) {
-        return ListedKind::Kind(k);
+        return Some(k);
     }
-    ListedKind::Unlisted
+    None
 }
 
 // The integer of a width; width 1 is the unsigned one.
-fn integer(n: u8) -> ListedKind
+fn integer(n: u8) -> Option<Kind>
     ensures { listed_kind_told result ≡ of_width (listed_told Listed.Integers) n }
 {
     if n == 1 {
-        return ListedKind::Kind(Kind::U8);
+        return Some(Kind::U8);
     }
     if n == 2 {
-        return ListedKind::Kind(Kind::I16);
+        return Some(Kind::I16);
     }
     if n == 4 {
-        return ListedKind::Kind(Kind::I32);
+        return Some(Kind::I32);
     }
     only(Kind::I64, n)
 }
 
 // The float of a width.
-fn float(n: u8) -> ListedKind
+fn float(n: u8) -> Option<Kind>
     ensures { listed_kind_told result ≡ of_width (listed_told Listed.Floats) n }
 {
     if n == 4 {
-        return ListedKind::Kind(Kind::F32);
+        return Some(Kind::F32);
     }
     only(Kind::F64, n)
 }
 
 // The kind of a width that the type lists.
-pub fn of_width(l: Listed, n: u8) -> ListedKind
+pub fn of_width(l: Listed, n: u8) -> Option<Kind>
     ensures { listed_kind_told result ≡ of_width (listed_told l) n }
 {
     match l {

@@ -1,9 +1,9 @@
 -- What was judged of a PLP value, told of its normal form: content is put behind the run.
 -- Assumes nothing.
+use Rattle.std.specs.Prelude.{Option, Some}
 use mathlib.Core.Path.{◌≡◌, sym, ap, ◌∙◌}
 use mathlib.Core.Bool.{Bool}
 use mathlib.Core.List.{List, ◌++◌}
-use mathlib.Core.Option.{Option, some}
 use Prim.Native.Nat.{ℕ, ◌+◌, ◌-◌, ◌^◌, ◌<◌, ◌≤◌}
 use native.Mathlib.Omega.{arith}
 use lib.ListN.{length}
@@ -28,26 +28,26 @@ use Rattle.value_normal.proofs.Growing.{held-length, grows_put}
 -- content: what it is, and that its form fits behind the run
 pub record ContentFits (s : List ℕ) (size : ℕ) (run : Run) (r : Read (Option (List ℕ))) (m n : ℕ) : Type 0 where
   pub counts : Counted r m n
-  pub normal : map_read plp_bytes r ≡ took (plp_bytes (some (content_in r))) n
-  pub fits : RunFits s size run (took (plp_bytes (some (content_in r))) n)
+  pub normal : map_read plp_bytes r ≡ took (plp_bytes (Some (content_in r))) n
+  pub fits : RunFits s size run (took (plp_bytes (Some (content_in r))) n)
 
-pub content_fits : (s : List ℕ) (size : ℕ) (run : Run) (r : Read (Option (List ℕ))) (m n : ℕ) → map_read counted r ≡ took (some m) n
+pub content_fits : (s : List ℕ) (size : ℕ) (run : Run) (r : Read (Option (List ℕ))) (m n : ℕ) → map_read counted r ≡ took (Some m) n
     → RunFits s size run (map_read plp_bytes r) → ContentFits s size run r m n
 content_fits s size run r m n h f =
     let c = counted-content r m n h in
-    let e : map_read plp_bytes r ≡ took (plp_bytes (some (content_in r))) n = ap (map_read plp_bytes) c.content in
+    let e : map_read plp_bytes r ≡ took (plp_bytes (Some (content_in r))) n = ap (map_read plp_bytes) c.content in
     record { counts = c; normal = e; fits = rw e at f }
 
 -- content is within the bound
 pub content_small : (text : Bool) (s : List ℕ) (m n : ℕ) → Bytes s → Counted (read_plp text s) m n → m < 256 ^ 4
-content_small text s m n b c = omega (arith, ((Plps.codec text).fits s (some (content_in (read_plp text s))) n b c.content).0, c.long, bound-said)
+content_small text s m n b c = omega (arith, ((Plps.codec text).fits s (Some (content_in (read_plp text s))) n b c.content).0, c.long, bound-said)
 
 -- the run, and the form behind it
 pub content_grows : (s out one ys after : List ℕ) (run : Run) (r : Read (Option (List ℕ))) (m n o e : ℕ) → ContentFits s (length out) run r m n
-    → one ≡ put_at out run.put (held s run) → o ≡ run.put + (run.at - run.from) → e ≡ o + length (plp_bytes (some (content_in r)))
-    → ys ≡ plp_bytes (some (content_in r)) → after ≡ put_mid o (e - o) one ys → RunGrows s out run (map_read plp_bytes r) after (run_on (run.at + n) e)
+    → one ≡ put_at out run.put (held s run) → o ≡ run.put + (run.at - run.from) → e ≡ o + length (plp_bytes (Some (content_in r)))
+    → ys ≡ plp_bytes (Some (content_in r)) → after ≡ put_mid o (e - o) one ys → RunGrows s out run (map_read plp_bytes r) after (run_on (run.at + n) e)
 content_grows s out one ys after run r m n o e c p q w y a =
-    let bytes = plp_bytes (some (content_in r)) in
+    let bytes = plp_bytes (Some (content_in r)) in
     let f = c.fits in
     let i : run.at ≤ length s = omega (arith, f.1) in
     let l = held-length s run f.0 i in

@@ -1,9 +1,9 @@
 -- A PLP null is its eight bytes as they came: they stand for the number that says null, so they are that number's bytes.
 -- Assumes nothing.
+use Rattle.std.specs.Prelude.{None, Option}
 use mathlib.Core.Path.{◌≡◌, refl, sym, ap, ◌∙◌}
 use mathlib.Core.Bool.{Bool}
 use mathlib.Core.List.{List}
-use mathlib.Core.Option.{Option, none}
 use Prim.Native.Nat.{ℕ, ◌+◌, ◌≤◌}
 use lib.Dec.{eqb, ltb}
 use lib.ListN.{length, take, drop}
@@ -59,16 +59,16 @@ head_bytes s m b h =
     ap (low_bytes 8) (sym (head_null t.0 (drop t.1 s) t.2 t.4)) ∙ low_eight s t.0 t.1 b t.3
 
 module _ (text : Bool) (s : List ℕ) (n : ℕ) (b : Bytes s) where
-  never_null : (w : Walk) (r : Answer Walked) → joined_of s w r ≡ took none n → low_bytes 8 plp_null ≡ take 8 s
+  never_null : (w : Walk) (r : Answer Walked) → joined_of s w r ≡ took None n → low_bytes 8 plp_null ≡ take 8 s
   never_null w (gives x) e = clash cc
-  never_null w (refuses d) e = no_took d none n e
+  never_null w (refuses d) e = no_took d None n e
 
-  of_head : (h : Read PlpHead) → read_plp_head s ≡ h → read_chunks text s h ≡ took none n → low_bytes 8 plp_null ≡ take 8 s
+  of_head : (h : Read PlpHead) → read_plp_head s ≡ h → read_chunks text s h ≡ took None n → low_bytes 8 plp_null ≡ take 8 s
   of_head (took is_null m) p e = head_bytes s m b p
   of_head (took (chunked total) m) p e = never_null (opened total text) (walk_from (length s + 1) s (opened total text) 0) e
-  of_head (stops d) p e = no_took d none n e
+  of_head (stops d) p e = no_took d None n e
 
-  null-bytes : read_plp text s ≡ took none n → plp_bytes none ≡ take 8 s
+  null-bytes : read_plp text s ≡ took None n → plp_bytes None ≡ take 8 s
   unfolding read_plp plp_bytes
   null-bytes h = of_head (read_plp_head s) refl h
 
@@ -80,12 +80,12 @@ module _ (text : Bool) (s out : List ℕ) (run : Run) (b : Bytes s) where
   abbrev normal : Read (List ℕ)
   normal = map_read plp_bytes (read_plp text rest)
 
-  null-normal : map_read counted (read_plp text rest) ≡ took none 8 → normal ≡ took (take 8 rest) 8
+  null-normal : map_read counted (read_plp text rest) ≡ took None 8 → normal ≡ took (take 8 rest) 8
   null-normal j =
       let e = counted-null (read_plp text rest) 8 j in
       ap (map_read plp_bytes) e ∙ ap (λ (l : List ℕ). took l 8) (null-bytes text rest 8 (bytes_drop run.at s b) e)
 
-  module _ (j : map_read counted (read_plp text rest) ≡ took none 8) (f : RunFits s (length out) run normal) where
+  module _ (j : map_read counted (read_plp text rest) ≡ took None 8) (f : RunFits s (length out) run normal) where
     pub null-inside : run.at + 8 ≤ length s
     null-inside = (rw (null-normal j) at f).1
 

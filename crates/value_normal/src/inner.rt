@@ -1,8 +1,7 @@
 // The copying pass, for the crates of this repository. It cannot fail: the row was judged and the room
 // is there. Bytes that are in normal form already lengthen a run; a run is copied in one piece where
 // other bytes must be put behind it.
-ghost use Rattle.std.specs.Prelude.{◌≡◌, [], ◌∷◌, ◌++◌, ◌+◌, ◌-◌, ◌≤◌, ◌<◌, length, take, drop};
-ghost use Rattle.std.proofs.Math.Option.{some};
+ghost use Rattle.std.specs.Prelude.{◌≡◌, [], ◌∷◌, ◌++◌, ◌+◌, ◌-◌, ◌≤◌, ◌<◌, length, take, drop, Some};
 ghost use Rattle.std.proofs.lemmas.List.Edits.{sets};
 ghost use Rattle.lists.specs.Put.{put_at};
 ghost use Rattle.format.specs.Answer.{took, map_read};
@@ -14,7 +13,6 @@ ghost use Rattle.value_normal.specs.Runs.{held, run_on, RunFits, RunGrows};
 
 use crate::Run;
 use content_size::content;
-use plp_join::Judged;
 use value_form::Form;
 use value_kind::family::Family;
 
@@ -49,7 +47,7 @@ fn bit_in(out: &mut [u8], s: &[u8], run: Run, at: usize) -> Run
 
 // PLP content of so many bytes, `end` bytes long in the input, put behind the run.
 fn content_in(out: &mut [u8], s: &[u8], run: Run, text: bool, count: usize, end: usize) -> Run
-    requires { (map_read counted (read_plp text (drop run.at s.now)) ≡ took (some count) end)
+    requires { (map_read counted (read_plp text (drop run.at s.now)) ≡ took (Some count) end)
         × RunFits s.now (length out.old) run (map_read plp_bytes (read_plp text (drop run.at s.now))) }
     ensures { RunGrows s.now out.old run (map_read plp_bytes (read_plp text (drop run.at s.now))) out.new result }
 {
@@ -71,15 +69,14 @@ fn plp_in(out: &mut [u8], s: &[u8], run: Run, text: bool) -> Run
     ensures { RunGrows s.now out.old run (map_read plp_bytes (read_plp text (drop run.at s.now))) out.new result }
 {
     let at = run.at;
-    let judged = plp_join::judge_plp(&s[at..], text);
-    match judged {
-        Judged::Null => Run {
+    match plp_join::judge_plp(&s[at..], text) {
+        Ok(None) => Run {
             from: run.from,
             at: at + 8,
             put: run.put,
         },
-        Judged::Content(count, end) => content_in(out, s, run, text, count, end),
-        Judged::Refused(_) => run,
+        Ok(Some((count, end))) => content_in(out, s, run, text, count, end),
+        Err(_) => run,
     }
 }
 

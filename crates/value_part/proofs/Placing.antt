@@ -1,10 +1,10 @@
 -- The part that a span names, and short content at a place as a part of the input. What was seen of the rest tells its value, so the part that was seen is
 -- that value's content; a null, a scalar and a refusal have none.
 -- Assumes nothing.
+use Rattle.std.specs.Prelude.{Err, Ok, Result, Option, Some}
 use mathlib.Core.Path.{◌≡◌, refl, ap, sym, ◌∙◌}
 use mathlib.Core.Bool.{Bool, true, false}
 use mathlib.Core.List.{List, []}
-use mathlib.Core.Option.{Option, some}
 use Prim.Native.Nat.{ℕ, ◌+◌, ◌<◌, ◌≤◌}
 use native.Mathlib.Omega.{arith}
 use lib.Dec.{ltb}
@@ -24,6 +24,7 @@ use Rattle.value_look.specs.declared.Seen.{Seen}
 use Rattle.value_look.specs.declared.Seen.TheVariants as L
 use Rattle.value_look.specs.Told.{seen_told, Lies}
 use Rattle.value_part.specs.Told.{content_read, short_content, part_seen}
+use Rattle.wire.specs.declared.Refusal.{Refusal}
 
 -- ---- the part that is handed back
 
@@ -46,7 +47,7 @@ handed_none s start = go (ltb (length s) (start + 0))
 
 -- ---- short content
 
-of_content : (k : ContentKind) (x : List ℕ) → content_of (content_value k (some x)) ≡ x
+of_content : (k : ContentKind) (x : List ℕ) → content_of (content_value k (Some x)) ≡ x
 of_content ContentKind.binary x = refl
 of_content ContentKind.string x = refl
 
@@ -73,28 +74,28 @@ module _ (c : D.Column) (s : List ℕ) (at : ℕ) where
   -- what was seen of the rest, under the column's family and declared length
   module _ (h : at ≤ length s) (k : keeps_rule c ≡ true) (declared : ℕ) (f : Option Family) (rest : List ℕ) (l : c.length ≡ declared)
       (g : f ≡ family_of c.type) (r : rest ≡ drop at s) where
-    read_seen : (x : Seen) → seen_told rest x ≡ read_family declared f rest → read_at (read_value c) s at ≡ further at (seen_told rest x)
+    read_seen : (x : Result Seen Refusal) → seen_told rest x ≡ read_family declared f rest → read_at (read_value c) s at ≡ further at (seen_told rest x)
     read_seen x e = read_kept c s at h k declared f rest l g r ∙ ap (further at) (sym e)
 
-    pub short_seen : (x : Seen) → seen_told rest x ≡ read_family declared f rest → Lies declared rest x
+    pub short_seen : (x : Result Seen Refusal) → seen_told rest x ≡ read_family declared f rest → Lies declared rest x
         → handed_back s (at + (part_seen x).start) (part_seen x).count ≡ short_content c s at
     unfolding short_content
-    short_seen (L.Null n) e i = handed_none s (at + 0) ∙ none_short (ap content_read (read_seen (L.Null n) e))
-    short_seen (L.Scalar j m) e i = handed_none s (at + 0) ∙ none_short (ap content_read (read_seen (L.Scalar j m) e))
-    short_seen (L.Part j start count) e i =
-        let d = ap content_read (read_seen (L.Part j start count) e) ∙ of_content (content_kind_told j) (take count (drop start rest)) in
+    short_seen (Ok (L.Null n)) e i = handed_none s (at + 0) ∙ none_short (ap content_read (read_seen (Ok (L.Null n)) e))
+    short_seen (Ok (L.Scalar j m)) e i = handed_none s (at + 0) ∙ none_short (ap content_read (read_seen (Ok (L.Scalar j m)) e))
+    short_seen (Ok (L.Part j start count)) e i =
+        let d = ap content_read (read_seen (Ok (L.Part j start count)) e) ∙ of_content (content_kind_told j) (take count (drop start rest)) in
         let q : is_plp c ≡ false = rw l i.2 in
         let z : start + count ≤ length rest = i.1 in
         let y : at + start + count ≤ length s = omega (arith, ap length r, length-drop at s) in
         let w : drop start rest ≡ drop (at + start) s = ap (drop start) r ∙ drop-drop start at s in
         sym (handed_inside s (at + start) count y) ∙ rw (q, d, w)
-    short_seen (L.Plp j) e i = handed_none s (at + 0) ∙ none_plp (rw l i)
-    short_seen (L.Refused d) e i = handed_none s (at + 0) ∙ none_short (ap content_read (read_seen (L.Refused d) e))
+    short_seen (Ok (L.Plp j)) e i = handed_none s (at + 0) ∙ none_plp (rw l i)
+    short_seen (Err d) e i = handed_none s (at + 0) ∙ none_short (ap content_read (read_seen (Err d) e))
 
     -- the part that was seen lies inside
-    pub seen_inside : (x : Seen) → Lies declared rest x → at + (part_seen x).start ≤ length s
-    seen_inside (L.Null n) i = omega arith
-    seen_inside (L.Scalar j m) i = omega arith
-    seen_inside (L.Part j start count) i = let z = i.1 in omega (arith, ap length r, length-drop at s)
-    seen_inside (L.Plp j) i = omega arith
-    seen_inside (L.Refused d) i = omega arith
+    pub seen_inside : (x : Result Seen Refusal) → Lies declared rest x → at + (part_seen x).start ≤ length s
+    seen_inside (Ok (L.Null n)) i = omega arith
+    seen_inside (Ok (L.Scalar j m)) i = omega arith
+    seen_inside (Ok (L.Part j start count)) i = let z = i.1 in omega (arith, ap length r, length-drop at s)
+    seen_inside (Ok (L.Plp j)) i = omega arith
+    seen_inside (Err d) i = omega arith

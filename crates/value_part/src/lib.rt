@@ -10,7 +10,7 @@ ghost use Rattle.value_part.specs.Told.{short_content, part_seen};
 use column_type::Column;
 use value_kind::{Span, family};
 use value_look::Seen;
-use wire::Cursor;
+use wire::{Cursor, Refusal};
 
 // The part of the bytes that a span names; the empty part where it leaves them.
 pub fn handed_back(s: &[u8], start: usize, count: usize) -> &[u8]
@@ -23,15 +23,15 @@ pub fn handed_back(s: &[u8], start: usize, count: usize) -> &[u8]
 }
 
 // The part that was seen, the empty one where there is none.
-fn part_seen(seen: Seen) -> Span
+fn part_seen(seen: Result<Seen, Refusal>) -> Span
     ensures { result ≡ part_seen seen }
 {
     match seen {
-        Seen::Null(_) => Span { start: 0, count: 0 },
-        Seen::Scalar(_, _) => Span { start: 0, count: 0 },
-        Seen::Part(_, start, count) => Span { start, count },
-        Seen::Plp(_) => Span { start: 0, count: 0 },
-        Seen::Refused(_) => Span { start: 0, count: 0 },
+        Ok(Seen::Null(_)) => Span { start: 0, count: 0 },
+        Ok(Seen::Scalar(_, _)) => Span { start: 0, count: 0 },
+        Ok(Seen::Part(_, start, count)) => Span { start, count },
+        Ok(Seen::Plp(_)) => Span { start: 0, count: 0 },
+        Err(_) => Span { start: 0, count: 0 },
     }
 }
 

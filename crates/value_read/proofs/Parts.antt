@@ -1,6 +1,7 @@
 -- Content that `read_value` says to stand in the input is what `handed_back` gives of the part that it names, and what `short_content` gives at the same place.
 -- A value whose content stands in the input is not PLP, and its content is the bytes behind its two length bytes (format: Found).
 -- Assumes nothing.
+use Rattle.std.specs.Prelude.{Ok}
 use mathlib.Core.Path.{◌≡◌, refl, sym, ◌∙◌}
 use mathlib.Core.Bool.{Bool, true, false}
 use mathlib.Core.List.{List}
@@ -8,7 +9,7 @@ use Prim.Native.Nat.{ℕ, ◌+◌}
 use lib.ListN.{length}
 use Rattle.lists.specs.Pick.{pick}
 use Rattle.lists.proofs.Split.{clash}
-use Rattle.format.specs.Answer.{room, took, map_read, read_at}
+use Rattle.format.specs.Answer.{took, map_read, read_at}
 use Rattle.format.specs.Descriptor as D
 use Rattle.format.specs.Value.{Value, ContentKind, read_value, content_of, is_plp, copied_out}
 use Rattle.format.specs.Found as F
@@ -21,7 +22,6 @@ use Rattle.column_type.specs.Told.{column_told}
 use Rattle.value_kind.specs.declared.Span.{Span}
 use Rattle.value_found.specs.declared.Stand.TheVariants as St
 use Rattle.value_found.specs.declared.Found.TheVariants as Fo
-use Rattle.value_found.specs.declared.ValueRead.TheVariants as R
 use Rattle.value_found.specs.Told.{content_found}
 use Rattle.value_part.specs.Told.{short_content}
 use Rattle.value_read.specs.Told.{read_out}
@@ -63,10 +63,10 @@ module _ (d : D.Column) (s : List ℕ) (at start count : ℕ) where
 
 -- of the calls: what `handed_back` gives of the part that `read_value` names is what `short_content` gives
 module _ (c : Column) (s : List ℕ) (at : ℕ) (out after : List ℕ) (p : Span) (next : Cursor) (names : List ℕ) where
-  pub binary-part : ReadsValue c s at out (R.Value (Fo.Binary (St.Input p)) next) after
+  pub binary-part : ReadsValue c s at out (Ok ((Fo.Binary (St.Input p)), next)) after
       → handed_back s p.start p.count ≡ short_content (column_told names c) s at
   binary-part r = found_part (column_told names c) s at p.start p.count ContentKind.binary (length out) next.at (r.told names)
 
-  pub string-part : ReadsValue c s at out (R.Value (Fo.String (St.Input p)) next) after
+  pub string-part : ReadsValue c s at out (Ok ((Fo.String (St.Input p)), next)) after
       → handed_back s p.start p.count ≡ short_content (column_told names c) s at
   string-part r = found_part (column_told names c) s at p.start p.count ContentKind.string (length out) next.at (r.told names)

@@ -5,6 +5,7 @@
 --   more_bytes: an answer other than refusal 1 does not change when more bytes follow, and neither does the room.
 -- It holds since the definitions agree (format: Writing, Found, More), and since the contracts decide the calls (Decided).
 -- Assumes nothing.
+use Rattle.std.specs.Prelude.{Ok, Result}
 use mathlib.Core.Path.{◌≡◌, refl, sym, ap, ◌∙◌, subst}
 use mathlib.Core.Bool.{Bool, true, false}
 use mathlib.Core.List.{List, [], ◌++◌}
@@ -41,7 +42,6 @@ use Rattle.format.proofs.More.{steady_at, steady_fitted}
 use Rattle.format.proofs.MoreReaders.{stream_value}
 use Rattle.format.proofs.Found.{Stands, read-stands}
 use Rattle.format.proofs.Writing.{Ranged, value_agrees}
-use Rattle.wire.specs.declared.Wrote.TheVariants as W
 use Rattle.wire.proofs.Decided.{Writes}
 use Rattle.wire.proofs.Writing.{not_refused, count_is}
 use Rattle.column_type.specs.declared.Column.{Column}
@@ -51,11 +51,12 @@ use Rattle.value_kind.specs.declared.Value.{Value}
 use Rattle.value_kind.specs.declared.Value.TheVariants as Gi
 use Rattle.value_kind.specs.Told.{value_told, scalar_told, Canonical}
 use Rattle.value_found.specs.declared.Found.TheVariants as Fo
-use Rattle.value_found.specs.declared.ValueRead.{ValueRead}
-use Rattle.value_found.specs.declared.ValueRead.TheVariants as R
 use Rattle.value_found.specs.Told.{value_read_told}
 use Rattle.value_read.specs.Told.{read_out}
 use Rattle.value_read.proofs.Decided.{ReadsValue, read_one, read_value_decided}
+use Rattle.wire.specs.declared.Cursor.{Cursor}
+use Rattle.value_found.specs.declared.Found.{Found}
+use Rattle.wire.specs.declared.Refusal.{Refusal}
 
 -- ---- the bytes that a writer wrote stand at the front of its room
 
@@ -76,13 +77,13 @@ written-front (refuses d) out after n h e = not_refused d n h
 -- ---- what was written reads back
 
 -- the value that was given; in a room that holds its content it is what was read, and it stands where it is said to
-pub record ReadsBack (d : D.Column) (g : Given) (s : List ℕ) (at n : ℕ) (lent after : List ℕ) (r : ValueRead) : Type 0 where
+pub record ReadsBack (d : D.Column) (g : Given) (s : List ℕ) (at n : ℕ) (lent after : List ℕ) (r : Result (Found × Cursor) Refusal) : Type 0 where
   pub value : Values.Value
   pub given : value_of g ≡ gives value
   pub reads : length (copied_out d value) ≤ length lent →
       (value_read_told r ≡ took (found_of d at 0 value) (at + n)) × Stands s after (found_of d at 0 value) value
 
-module _ (c : Column) (buffer out written : List ℕ) (n : ℕ) (before rest lent after : List ℕ) (r : ValueRead) where
+module _ (c : Column) (buffer out written : List ℕ) (n : ℕ) (before rest lent after : List ℕ) (r : Result (Found × Cursor) Refusal) where
   abbrev d : D.Column
   d = column_told buffer c
 
@@ -97,7 +98,7 @@ module _ (c : Column) (buffer out written : List ℕ) (n : ℕ) (before rest len
   unfolding fitted_read
   fits_out x e l = rw (e, le-ltb (length lent) (length (copied_out d x)) l)
 
-  module _ (v : Value) (ranged : Ranged (value_told buffer v)) (writes : Writes (write_value d (value_told buffer v)) out (W.Bytes n) written)
+  module _ (v : Value) (ranged : Ranged (value_told buffer v)) (writes : Writes (write_value d (value_told buffer v)) out (Ok n) written)
       (read : ReadsValue c s at lent r after) where
     pub written_read : ReadsBack d (value_told buffer v) s at n lent after r
     written_read =
@@ -119,15 +120,15 @@ module _ (c : Column) (buffer out written : List ℕ) (n : ℕ) (before rest len
 
   -- a scalar takes no room
   pub scalar_read : (x : Scalar) → Canonical x → Ranged (value_told buffer (Gi.Scalar x))
-      → Writes (write_value d (value_told buffer (Gi.Scalar x))) out (W.Bytes n) written → ReadsValue c s at lent r after
-      → r ≡ R.Value (Fo.Scalar x) (record { at = at + n })
+      → Writes (write_value d (value_told buffer (Gi.Scalar x))) out (Ok n) written → ReadsValue c s at lent r after
+      → r ≡ Ok ((Fo.Scalar x), (record { at = at + n }))
   unfolding copied_out
   scalar_read x k ranged writes read =
       let b = written_read (Gi.Scalar x) ranged writes read in
       let e : b.value ≡ Values.Value.scalar (scalar_told x) = cc b.given in
       let z : copied_out d b.value ≡ [] = rw e (none_copied (is_plp d)) in
       let l : length (copied_out d b.value) ≤ length lent = omega (arith, ap length z) in
-      read_one r (R.Value (Fo.Scalar x) (record { at = at + n })) read.canonical k (rw e at (b.reads l).0)
+      read_one r (Ok ((Fo.Scalar x), (record { at = at + n }))) read.canonical k (rw e at (b.reads l).0)
     where
       none_copied : (p : Bool) → pick {A = List ℕ} p [] [] ≡ []
       none_copied true = refl
@@ -135,7 +136,7 @@ module _ (c : Column) (buffer out written : List ℕ) (n : ℕ) (before rest len
 
 -- ---- more bytes
 
-module _ (c : Column) (s more : List ℕ) (at : ℕ) (out : List ℕ) (x y : ValueRead) (a b : List ℕ) where
+module _ (c : Column) (s more : List ℕ) (at : ℕ) (out : List ℕ) (x y : Result (Found × Cursor) Refusal) (a b : List ℕ) where
   pub more_bytes : ReadsValue c s at out x a → ReadsValue c (s ++ more) at out y b → (value_read_told x ≡ stops missing → ⊥) → (x ≡ y) × (a ≡ b)
   more_bytes p q h = read_value_decided c s at out x y a b p (record {
     told = λ names. q.told names ∙ ap (map_read (found_of (column_told names c) at 0)) (same names);

@@ -8,23 +8,28 @@ ghost use Rattle.value_found.specs.Told.{value_read_told, CanonicalRead};
 ghost use Rattle.value_read.specs.Told.{found_out, room_out};
 
 use column_type::Column;
-use value_found::{ValueRead, inner};
+use value_found::{Found, inner};
 use value_kind::family;
 use wire::{Cursor, Refusal};
 
 // The value of the column at the cursor; PLP content is joined at the front of the room.
-pub fn read_value(c: Column, s: &[u8], cursor: Cursor, out: &mut [u8]) -> ValueRead
+pub fn read_value(
+    c: Column,
+    s: &[u8],
+    cursor: Cursor,
+    out: &mut [u8],
+) -> Result<(Found, Cursor), Refusal>
     ensures told { (b : List ℕ) → value_read_told result ≡ found_out (column_told b c) s.now cursor.at out.old }
     ensures canonical { CanonicalRead result }
     ensures room { (b : List ℕ) → out.new ≡ room_out (column_told b c) s.now cursor.at out.old }
 {
     let at = cursor.at;
     if s.len() < at {
-        return ValueRead::Refused(Refusal::Missing);
+        return Err(Refusal::Missing);
     }
     if column_rule::keeps_rule(c) {
         let ty = c.ty;
         return inner::read_in(family::family_of(ty), c.length as u32, &s[at..], at, 0, out);
     }
-    ValueRead::Refused(Refusal::Rule)
+    Err(Refusal::Rule)
 }

@@ -3,71 +3,71 @@ ghost use Rattle.std.specs.Prelude.{◌≡◌, not, ◌+◌, ltb};
 ghost use Rattle.format.specs.Answer.{gives, kind, long, refuse_if, wrote};
 ghost use Rattle.format.specs.Scalar.{width, same_kind, is_one_of};
 ghost use Rattle.format.specs.Value.{Given, write_family};
-ghost use Rattle.wire.specs.Told.{wrote_told};
+ghost use Rattle.wire.specs.Told.{answer_told};
 ghost use Rattle.value_kind.specs.Told.{kind_told, listed_told, family_told, scalar_told, value_told};
 
 use content_size::content;
 use value_kind::family::{ContentKind, Family};
 use value_kind::kinds::{Kind, Listed};
 use value_kind::{Scalar, Value, kinds};
-use wire::{Refusal, Wrote};
+use wire::Refusal;
 
 // Null under a family.
-fn null(f: Family, declared: u32) -> Wrote
-    ensures { wrote_told result ≡ wrote (write_family declared (family_told f) Given.null) }
+fn null(f: Family, declared: u32) -> Result<usize, Refusal>
+    ensures { answer_told result ≡ wrote (write_family declared (family_told f) Given.null) }
 {
     match f {
-        Family::Fixed(_) => Wrote::Refused(Refusal::Kind),
-        Family::LengthByte(_) => Wrote::Bytes(1),
+        Family::Fixed(_) => Err(Refusal::Kind),
+        Family::LengthByte(_) => Ok(1),
         Family::Content(_) => {
             if content::is_plp(declared) {
-                return Wrote::Bytes(8);
+                return Ok(8);
             }
-            Wrote::Bytes(2)
+            Ok(2)
         }
-        Family::NotCarried => Wrote::Refused(Refusal::NotCarried),
+        Family::NotCarried => Err(Refusal::NotCarried),
     }
 }
 
 // A value of a kind under a fixed type of another or of the same kind.
-fn fixed(wanted: Kind, k: Kind) -> Wrote
-    ensures { wrote_told result ≡ refuse_if (not (same_kind (kind_told k) (kind_told wanted))) kind (gives (width (kind_told k))) }
+fn fixed(wanted: Kind, k: Kind) -> Result<usize, Refusal>
+    ensures { answer_told result ≡ refuse_if (not (same_kind (kind_told k) (kind_told wanted))) kind (gives (width (kind_told k))) }
 {
     if kinds::same_kind(k, wanted) {
-        return Wrote::Bytes(kinds::bytes_of(k));
+        return Ok(kinds::bytes_of(k));
     }
-    Wrote::Refused(Refusal::Kind)
+    Err(Refusal::Kind)
 }
 
 // A value of a kind behind a length byte.
-fn listed(l: Listed, declared: u32, k: Kind) -> Wrote
-    ensures { wrote_told result ≡ refuse_if (not (is_one_of (listed_told l) (kind_told k))) kind (refuse_if (ltb declared (width (kind_told k))) long (gives (1 + width (kind_told k)))) }
+fn listed(l: Listed, declared: u32, k: Kind) -> Result<usize, Refusal>
+    ensures { answer_told result ≡ refuse_if (not (is_one_of (listed_told l) (kind_told k))) kind (refuse_if (ltb declared (width (kind_told k))) long (gives (1 + width (kind_told k)))) }
 {
     if kinds::is_listed(l, k) {
         let n = kinds::bytes_of(k);
         if (declared as usize) < n {
-            return Wrote::Refused(Refusal::Long);
+            return Err(Refusal::Long);
         }
-        return Wrote::Bytes(1 + n);
+        return Ok(1 + n);
     }
-    Wrote::Refused(Refusal::Kind)
+    Err(Refusal::Kind)
 }
 
 // A value of a fixed width under a family.
-fn scalar(f: Family, declared: u32, s: Scalar) -> Wrote
-    ensures { wrote_told result ≡ wrote (write_family declared (family_told f) (Given.scalar (scalar_told s))) }
+fn scalar(f: Family, declared: u32, s: Scalar) -> Result<usize, Refusal>
+    ensures { answer_told result ≡ wrote (write_family declared (family_told f) (Given.scalar (scalar_told s))) }
 {
     match f {
         Family::Fixed(wanted) => fixed(wanted, kinds::kind_of(s)),
         Family::LengthByte(l) => listed(l, declared, kinds::kind_of(s)),
-        Family::Content(_) => Wrote::Refused(Refusal::Kind),
-        Family::NotCarried => Wrote::Refused(Refusal::NotCarried),
+        Family::Content(_) => Err(Refusal::Kind),
+        Family::NotCarried => Err(Refusal::NotCarried),
     }
 }
 
 // A value under a family.
-pub fn in_family(f: Family, declared: u32, v: Value, buffer: &[u8]) -> Wrote
-    ensures { wrote_told result ≡ wrote (write_family declared (family_told f) (value_told buffer.now v)) }
+pub fn in_family(f: Family, declared: u32, v: Value, buffer: &[u8]) -> Result<usize, Refusal>
+    ensures { answer_told result ≡ wrote (write_family declared (family_told f) (value_told buffer.now v)) }
 {
     match v {
         Value::Null => null(f, declared),

@@ -1,14 +1,13 @@
 -- What a value that was read needs, in the words of `format`: how many content bytes reading copies out, and how many bytes its normal form has.
+use Rattle.std.specs.Prelude.{Err, Ok, Result, Option}
 use Rattle.std.specs.Prelude.{ℕ, ◌≤◌, List, [], eqb, length}
-use Rattle.std.proofs.Math.Option.{Option}
 use Rattle.lists.specs.Pick.{pick}
 use Rattle.format.specs.Answer.{Read, took, stops}
 use Rattle.format.specs.Descriptor as D
 use Rattle.format.specs.Plp.{plp_mark, plp_copied, plp_bytes}
 use Rattle.format.specs.Value.{Value, Family, content_of, copied_out, encode, encode_family}
 use Rattle.wire.specs.Told.{refusal_told}
-use Rattle.value_weigh.specs.declared.Weighed.{Weighed}
-use Rattle.value_weigh.specs.declared.Weighed.TheVariants as W
+use Rattle.wire.specs.declared.Refusal.{Refusal}
 
 pub record Needs : Type 0 where
   pub joined : ℕ
@@ -33,11 +32,11 @@ abbrev pub plp_needs : Option (List ℕ) → Needs
 plp_needs o = needs_for (plp_copied o) (plp_bytes o)
 
 -- what a value needs, and how many bytes it took
-abbrev pub weighed_told : Weighed → Read Needs
-weighed_told (W.Fine n joined normal) = took (record { joined = joined; normal = normal }) n
-weighed_told (W.Refused e) = stops (refusal_told e)
+abbrev pub weighed_told : Result (ℕ × ℕ × ℕ) Refusal → Read Needs
+weighed_told (Ok (n, joined, normal)) = took (record { joined = joined; normal = normal }) n
+weighed_told (Err e) = stops (refusal_told e)
 
 -- a value lies inside, and needs no more than it took
-abbrev pub Within : List ℕ → Weighed → Type 0
-Within s (W.Fine n joined normal) = (n ≤ length s) × (joined ≤ n) × (normal ≤ n)
-Within s (W.Refused e) = Unit {0}
+abbrev pub Within : List ℕ → Result (ℕ × ℕ × ℕ) Refusal → Type 0
+Within s (Ok (n, joined, normal)) = (n ≤ length s) × (joined ≤ n) × (normal ≤ n)
+Within s (Err e) = Unit {0}

@@ -11,54 +11,37 @@ ghost use Rattle.value_kind.specs.Told.{content_kind_told, family_told};
 ghost use Rattle.value_weigh.specs.Told.{weighed_told, needs_in, plp_needs, Within};
 
 use content_size::content;
-use plp_join::Judged;
 use value_kind::family::{ContentKind, Family};
 use value_kind::{family, kinds};
 use value_look::Seen;
 use wire::Refusal;
 
-// The bytes that a value takes, the content bytes that reading copies out (PLP's alone), and the
-// bytes of its normal form; or why there is no value.
-#[derive(Clone, Copy)]
-pub enum Weighed {
-    Fine(usize, usize, usize),
-    Refused(Refusal),
-}
-
 // A PLP value. Content of none is the two marks alone.
-fn weigh_plp(k: ContentKind, rest: &[u8]) -> Weighed
+fn weigh_plp(k: ContentKind, rest: &[u8]) -> Result<(usize, usize, usize), Refusal>
     ensures told { weighed_told result ≡ map_read plp_needs (read_plp (is_text (content_kind_told k)) rest.now) }
     ensures within { Within rest.now result }
 {
-    let judged = plp_join::judge_plp(rest, family::is_text(k));
-    match judged {
-        Judged::Null => Weighed::Fine(8, 0, 8),
-        Judged::Content(count, end) => Weighed::Fine(
-            end,
-            count,
-            content::formed(true, count as u32),
-        ),
-        Judged::Refused(e) => Weighed::Refused(e),
+    match plp_join::judge_plp(rest, family::is_text(k))? {
+        None => Ok((8, 0, 8)),
+        Some((count, end)) => Ok((end, count, content::formed(true, count as u32))),
     }
 }
 
 // The value that the rest of a row, from its first byte on, begins with.
-pub fn weigh(f: Family, declared: u32, rest: &[u8]) -> Weighed
+pub fn weigh(f: Family, declared: u32, rest: &[u8]) -> Result<(usize, usize, usize), Refusal>
     ensures told { weighed_told result ≡ map_read (needs_in declared (family_told f)) (read_family declared (family_told f) rest.now) }
     ensures within { Within rest.now result }
 {
-    let seen = value_look::look(f, declared, rest);
-    match seen {
-        Seen::Null(n) => Weighed::Fine(n, 0, n),
+    match value_look::look(f, declared, rest)? {
+        Seen::Null(n) => Ok((n, 0, n)),
         Seen::Scalar(k, at) => {
             let wide = at + kinds::bytes_of(k);
-            Weighed::Fine(wide, 0, wide)
-        }
+            Ok((wide, 0, wide))
+        },
         Seen::Part(_, start, count) => {
             let long = start + count;
-            Weighed::Fine(long, 0, long)
-        }
+            Ok((long, 0, long))
+        },
         Seen::Plp(k) => weigh_plp(k, rest),
-        Seen::Refused(e) => Weighed::Refused(e),
     }
 }

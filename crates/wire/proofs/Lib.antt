@@ -3,3 +3,4 @@ pub mod Writing
 pub mod GuidLaws
 pub mod GuidBack
 pub mod Decided
+pub mod Exit

@@ -1,22 +1,15 @@
 -- What this crate's declared types tell, in the words of `format`: document 01's number or values for each case of an enum.
-use Rattle.std.specs.Prelude.{ℕ, ◌<◌, ◌≤◌, List, ◌++◌, length, take, drop}
+use Rattle.std.specs.Prelude.{ℕ, ◌<◌, ◌≤◌, List, ◌++◌, length, take, drop, Result, Ok, Err}
 use Rattle.format.specs.Answer.{Answer, gives, refuses, Read, took, stops, map_read}
 use Rattle.format.specs.Answer as A
 use Rattle.format.specs.Number.{high_nat, high_bytes, read_bytes}
 use Rattle.format.specs.Guid.{guid_order}
 use Rattle.wire.specs.declared.Refusal.{Refusal}
 use Rattle.wire.specs.declared.Refusal.TheVariants as R
-use Rattle.wire.specs.declared.Wrote.{Wrote}
-use Rattle.wire.specs.declared.Wrote.TheVariants as W
 use Rattle.wire.specs.declared.Width.{Width}
 use Rattle.wire.specs.declared.Width.TheVariants as Widths
-use Rattle.wire.specs.declared.ByteRead.{ByteRead}
-use Rattle.wire.specs.declared.ByteRead.TheVariants as B
-use Rattle.wire.specs.declared.NumberRead.{NumberRead}
-use Rattle.wire.specs.declared.NumberRead.TheVariants as N
+use Rattle.wire.specs.declared.Cursor.{Cursor}
 use Rattle.wire.specs.declared.Guid.{Guid}
-use Rattle.wire.specs.declared.GuidRead.{GuidRead}
-use Rattle.wire.specs.declared.GuidRead.TheVariants as G
 
 -- the refusals, by document 01's table
 abbrev pub refusal_told : Refusal → A.Refusal
@@ -30,9 +23,10 @@ refusal_told R.NotCarried = A.not_carried
 refusal_told R.Sequence = A.sequence
 refusal_told R.NotText = A.not_text
 
-abbrev pub wrote_told : Wrote → Answer ℕ
-wrote_told (W.Bytes n) = gives n
-wrote_told (W.Refused e) = refuses (refusal_told e)
+-- what a call answers: a value, or one refusal
+abbrev pub answer_told : {A : Type 0} → Result A Refusal → Answer A
+answer_told (Ok v) = gives v
+answer_told (Err e) = refuses (refusal_told e)
 
 -- an answer that gives bytes, and room for them: what a writing pass asks of its caller
 abbrev pub Fitting : Answer (List ℕ) → ℕ → Type 0
@@ -46,18 +40,14 @@ width_of Widths.Four = 4
 width_of Widths.Eight = 8
 
 -- what was read, and the next place
-abbrev pub byte_told : ByteRead → Read ℕ
-byte_told (B.Byte b c) = took b c.at
-byte_told (B.Refused e) = stops (refusal_told e)
-
-abbrev pub number_told : NumberRead → Read ℕ
-number_told (N.Number n c) = took n c.at
-number_told (N.Refused e) = stops (refusal_told e)
+abbrev pub read_told : {A : Type 0} → Result (A × Cursor) Refusal → Read A
+read_told (Ok (v, c)) = took v c.at
+read_told (Err e) = stops (refusal_told e)
 
 -- a number that was read lies below a bound
-abbrev pub NumberBelow : ℕ → NumberRead → Type 0
-NumberBelow b (N.Number n c) = n < b
-NumberBelow b (N.Refused e) = Unit {0}
+abbrev pub NumberBelow : ℕ → Result (ℕ × Cursor) Refusal → Type 0
+NumberBelow b (Ok (n, c)) = n < b
+NumberBelow b (Err e) = Unit {0}
 
 -- ---- a GUID is two numbers: its sixteen bytes in text order, and the GUID that sixteen bytes in wire order stand for
 
@@ -69,10 +59,6 @@ guid_wire g = guid_order (guid_bytes g)
 
 unfoldable pub guid_text : List ℕ → Guid
 guid_text s = record { high = high_nat (take 8 (guid_order s)); low = high_nat (drop 8 (guid_order s)) }
-
-abbrev pub guid_told : GuidRead → Read Guid
-guid_told (G.Guid g c) = took g c.at
-guid_told (G.Refused e) = stops (refusal_told e)
 
 unfoldable pub read_guid : List ℕ → Read Guid
 read_guid s = map_read guid_text (read_bytes 16 s)

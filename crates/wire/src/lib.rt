@@ -7,29 +7,31 @@ pub mod inner;
 pub mod marks;
 
 ghost use Rattle.std.specs.Prelude.{◌≡◌, ◌+◌, ◌^◌, leb, length};
-ghost use Rattle.format.specs.Answer.{read_at};
+ghost use Rattle.format.specs.Answer.{number, read_at};
 ghost use Rattle.format.specs.Number.{read_byte, read_low, read_high};
-ghost use Rattle.wire.specs.Told.{width_of, byte_told, number_told, NumberBelow, guid_told, read_guid};
+ghost use Rattle.wire.specs.Told.{width_of, refusal_told, read_told, NumberBelow, read_guid};
 
 // Document 01's refusals, in the order of its table.
-#[derive(Clone, Copy)]
+#[derive(Clone, Copy, Debug, PartialEq, Eq)]
 pub enum Refusal {
-    Missing,
-    Unknown,
-    Kind,
-    Room,
-    Long,
-    Rule,
-    NotCarried,
-    Sequence,
-    NotText,
+    Missing = 1,
+    Unknown = 2,
+    Kind = 3,
+    Room = 4,
+    Long = 5,
+    Rule = 6,
+    NotCarried = 7,
+    Sequence = 8,
+    NotText = 9,
 }
 
-// What a writer answers: how many bytes stand at the front of the room, or why none was written.
-#[derive(Clone, Copy)]
-pub enum Wrote {
-    Bytes(usize),
-    Refused(Refusal),
+impl Refusal {
+    // Its number in the table.
+    pub fn number(self) -> u8
+        ensures { result ≡ number (refusal_told self) }
+    {
+        self as u8
+    }
 }
 
 // The widths of a number.
@@ -47,29 +49,11 @@ pub struct Cursor {
     pub at: usize,
 }
 
-#[derive(Clone, Copy)]
-pub enum ByteRead {
-    Byte(u8, Cursor),
-    Refused(Refusal),
-}
-
-#[derive(Clone, Copy)]
-pub enum NumberRead {
-    Number(u64, Cursor),
-    Refused(Refusal),
-}
-
 // A GUID in text order: its first eight bytes and its last eight, each high byte first.
 #[derive(Clone, Copy)]
 pub struct Guid {
     pub high: u64,
     pub low: u64,
-}
-
-#[derive(Clone, Copy)]
-pub enum GuidRead {
-    Guid(Guid, Cursor),
-    Refused(Refusal),
 }
 
 impl Width {
@@ -101,49 +85,49 @@ pub fn inside(s: &[u8], at: usize, n: usize) -> bool
 
 impl Cursor {
     // The byte at the cursor.
-    pub fn byte(self, s: &[u8]) -> ByteRead
-        ensures { byte_told result ≡ read_at read_byte s.now self.at }
+    pub fn byte(self, s: &[u8]) -> Result<(u8, Cursor), Refusal>
+        ensures { read_told result ≡ read_at read_byte s.now self.at }
     {
         let at = self.at;
         if at < s.len() {
-            ByteRead::Byte(s[at], Cursor { at: at + 1 })
+            Ok((s[at], Cursor { at: at + 1 }))
         } else {
-            ByteRead::Refused(Refusal::Missing)
+            Err(Refusal::Missing)
         }
     }
 
     // The number at the cursor, low byte first.
-    pub fn low(self, s: &[u8], w: Width) -> NumberRead
-        ensures { (number_told result ≡ read_at (read_low (width_of w)) s.now self.at) × NumberBelow (256 ^ width_of w) result }
+    pub fn low(self, s: &[u8], w: Width) -> Result<(u64, Cursor), Refusal>
+        ensures { (read_told result ≡ read_at (read_low (width_of w)) s.now self.at) × NumberBelow (256 ^ width_of w) result }
     {
         let at = self.at;
         let n = w.bytes();
         if inside(s, at, n) {
-            return NumberRead::Number(inner::low_at(s, at, n), Cursor { at: at + n });
+            return Ok((inner::low_at(s, at, n), Cursor { at: at + n }));
         }
-        NumberRead::Refused(Refusal::Missing)
+        Err(Refusal::Missing)
     }
 
     // The number at the cursor, high byte first.
-    pub fn high(self, s: &[u8], w: Width) -> NumberRead
-        ensures { (number_told result ≡ read_at (read_high (width_of w)) s.now self.at) × NumberBelow (256 ^ width_of w) result }
+    pub fn high(self, s: &[u8], w: Width) -> Result<(u64, Cursor), Refusal>
+        ensures { (read_told result ≡ read_at (read_high (width_of w)) s.now self.at) × NumberBelow (256 ^ width_of w) result }
     {
         let at = self.at;
         let n = w.bytes();
         if inside(s, at, n) {
-            return NumberRead::Number(inner::high_at(s, at, n), Cursor { at: at + n });
+            return Ok((inner::high_at(s, at, n), Cursor { at: at + n }));
         }
-        NumberRead::Refused(Refusal::Missing)
+        Err(Refusal::Missing)
     }
 
     // The GUID whose sixteen bytes in wire order stand at the cursor.
-    pub fn guid(self, s: &[u8]) -> GuidRead
-        ensures { guid_told result ≡ read_at read_guid s.now self.at }
+    pub fn guid(self, s: &[u8]) -> Result<(Guid, Cursor), Refusal>
+        ensures { read_told result ≡ read_at read_guid s.now self.at }
     {
         let at = self.at;
         if inside(s, at, 16) {
-            return GuidRead::Guid(inner::guid_at(s, at), Cursor { at: at + 16 });
+            return Ok((inner::guid_at(s, at), Cursor { at: at + 16 }));
         }
-        GuidRead::Refused(Refusal::Missing)
+        Err(Refusal::Missing)
     }
 }

@@ -4,12 +4,9 @@
 #![tactic(auto)]
 
 ghost use Rattle.std.specs.Prelude.{◌≡◌, ◌<◌, ◌≤◌, length, IfOk};
-ghost use Rattle.format.specs.Answer as Answer;
-ghost use Rattle.wire.specs.Told.{refusal_told};
 
 use std::io;
 use std::io::Read;
-use wire::Refusal;
 
 // Text as it stands, and how many bytes it has.
 pub fn text(rt: &impl Print, s: &[u8]) -> io::Result<usize> {
@@ -19,10 +16,8 @@ pub fn text(rt: &impl Print, s: &[u8]) -> io::Result<usize> {
 
 // Two counts together. Lines and frames are short, so the sum is exact for every one that occurs.
 pub fn both(a: usize, b: usize) -> usize {
-    if a < 4294967296 {
-        if b < 4294967296 {
-            return a + b;
-        }
+    if a < 4294967296 && b < 4294967296 {
+        return a + b;
     }
     a
 }
@@ -58,23 +53,6 @@ pub fn signed(rt: &impl Print, n: u64, half: u64) -> io::Result<usize> {
     Ok(0)
 }
 
-// Document 01's number of a refusal.
-pub fn refusal(e: Refusal) -> u64
-    ensures { result ≡ Answer.number (refusal_told e) }
-{
-    match e {
-        Refusal::Missing => 1,
-        Refusal::Unknown => 2,
-        Refusal::Kind => 3,
-        Refusal::Room => 4,
-        Refusal::Long => 5,
-        Refusal::Rule => 6,
-        Refusal::NotCarried => 7,
-        Refusal::Sequence => 8,
-        Refusal::NotText => 9,
-    }
-}
-
 fn digit(n: u8) -> u8 {
     let d = n % 16;
     if d < 10 {
@@ -87,16 +65,14 @@ fn digit(n: u8) -> u8 {
 fn spell(s: &[u8], text: &mut [u8]) -> usize
     ensures { result ≤ length text.old }
 {
-    let mut i = 0;
     let mut o: usize = 0;
-    while i < s.len() {
+    for b in s {
         if text.len() - o < 2 {
             return o;
         }
-        text[o] = digit(s[i] / 16);
-        text[o + 1] = digit(s[i]);
+        text[o] = digit(*b / 16);
+        text[o + 1] = digit(*b);
         o += 2;
-        i += 1;
     }
     o
 }
@@ -108,24 +84,10 @@ fn chunk(rt: &impl Print, s: &[u8]) -> io::Result<()> {
     rt.write_all(&digits[..n])
 }
 
-// Where a part of at most so many bytes ends.
-fn end_of_part(s: &[u8], at: usize, most: usize) -> usize
-    requires { (at < length s.now) × (0 < most) }
-    ensures { (at < result) × (result ≤ length s.now) }
-{
-    if s.len() - at < most {
-        return s.len();
-    }
-    at + most
-}
-
 // Bytes, two digits each, a chunk at a time.
 pub fn hex(rt: &impl Print, s: &[u8]) -> io::Result<()> {
-    let mut at = 0;
-    while at < s.len() {
-        let end = end_of_part(s, at, 2048);
-        chunk(rt, &s[at..end])?;
-        at = end;
+    for part in s.chunks(2048) {
+        chunk(rt, part)?;
     }
     Ok(())
 }
@@ -139,21 +101,16 @@ fn line(rt: &impl Print, s: &[u8]) -> io::Result<()> {
 
 // Bytes, two digits each, 32 in a line.
 pub fn hex_lines(rt: &impl Print, s: &[u8]) -> io::Result<()> {
-    let mut at = 0;
-    while at < s.len() {
-        let end = end_of_part(s, at, 32);
-        line(rt, &s[at..end])?;
-        at = end;
+    for part in s.chunks(32) {
+        line(rt, part)?;
     }
     Ok(())
 }
 
 // A text so many times.
 pub fn times(rt: &impl Print, s: &[u8], n: usize) -> io::Result<()> {
-    let mut i: usize = 0;
-    while i < n {
+    for _ in 0..n {
         text(rt, s)?;
-        i += 1;
     }
     Ok(())
 }

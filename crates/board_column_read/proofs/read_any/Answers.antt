@@ -5,23 +5,23 @@ use Rattle.column_type.specs.Told.{column_read_told, NamesFrom}
 use Rattle.board_column_read.proofs.Laws.{leaves_column, leaves_nothing}
 use Rattle.board_column_read.proofs.read_any.Goals as goal
 
-pub returns-in-Column : goal.returns-in-Column
-returns-in-Column c =
+pub returns-in-Ok : goal.returns-in-Ok
+returns-in-Ok c =
     let a = c.args in
     let s = a.bytes.now in
-    let all = leaves_column _ s a.at a.index _ a.column.now _ a.names.now _ _ _ (sym (ap (column_read_told s) c.in-Column.is) ∙ c.read_column-read.ensures.told)
-    (subst (NamesFrom s (a.at + 3)) c.in-Column.is c.read_column-read.ensures.names) c.at.ensures c.record_of.ensures c.names_of.ensures in record {
+    let all = leaves_column _ s a.at a.index _ a.column.now _ a.names.now _ _ _ (sym (ap (column_read_told s) c.in-Ok.is) ∙ c.read_column-read.ensures.told)
+    (subst (NamesFrom s (a.at + 3)) c.in-Ok.is c.read_column-read.ensures.names) c.at.ensures c.record_of.ensures c.names_of.ensures in record {
       answer = all.0;
       column = all.1.0;
       names = all.1.1;
     }
 
-pub returns-in-Refused : goal.returns-in-Refused
-returns-in-Refused c =
+pub returns-in-Err : goal.returns-in-Err
+returns-in-Err c =
     let a = c.args in
     let s = a.bytes.now in
     let all = leaves_nothing _ s a.at a.index _ a.column.now _ a.names.now _ _
-    (sym (ap (column_read_told s) c.in-Refused.is) ∙ c.read_column-read.ensures.told) c.refused.ensures refl refl in record {
+    (sym (ap (column_read_told s) c.in-Err.is) ∙ c.read_column-read.ensures.told) c.refused.ensures refl refl in record {
       answer = all.0;
       column = all.1.0;
       names = all.1.1;

@@ -13,7 +13,7 @@ use Rattle.format.specs.Answer.{took, rule, stop_if, read_at}
 use Rattle.format.specs.Descriptor as D
 use Rattle.format.specs.Row.{max_columns, read_columns}
 use Rattle.format.proofs.Place.{at_behind}
-use Rattle.column_type.specs.Told.{column_told, column_read_told}
+use Rattle.column_type.specs.Told.{column_told}
 use Rattle.capture_columns.specs.Told.{stop_of, stop_at}
 use Rattle.capture_columns.proofs.Reading.{read_left, left_begins, left_more, left_stops, left_ends}
 use Rattle.capture_columns.proofs.Reading.{stop_begins, stop_goes_on, stop_is, stop_behind_lem, column-inside, held_more}
@@ -66,20 +66,20 @@ loop-i-preserved c =
     let cols = c.loop-i.list in
     let inv = c.loop-i.invariant in
     let less = c.loop-i-test.true in
-    let e = sym c.read_column-r.ensures.told ∙ ap (column_read_told s) c.in-Column.is in
+    let e = sym c.in-Ok.ensures.told in
     let room : i < length cols = subst (λ (n : ℕ). i < n) (sym inv.2) (lt_of_lt_of_le less inv.1) in
-    let more = left_more s count i less (map (column_told s) (take i cols)) c.loop-i.at.at (column_told s c.in-Column.c) c.in-Column.next.at e in
-    let held = held_more (column_told s) i cols c.in-Column.c room in (
+    let more = left_more s count i less (map (column_told s) (take i cols)) c.loop-i.at.at (column_told s c.in-Ok.c) c.in-Ok.next.at e in
+    let held = held_more (column_told s) i cols c.in-Ok.c room in (
       less-next i count less,
       inv.1,
-      length-set cols i c.in-Column.c ∙ inv.2,
-      column-inside s c.loop-i.at.at (column_told s c.in-Column.c) c.in-Column.next.at e,
-      inv.4 ∙ (more ∙ ap (λ (cs : List D.Column). read_left (count - (i + 1)) s cs c.in-Column.next.at) (sym held)),
-      inv.5 ∙ stop_goes_on s count i less [] c.loop-i.at.at i (column_told s c.in-Column.c) c.in-Column.next.at e,
+      length-set cols i c.in-Ok.c ∙ inv.2,
+      column-inside s c.loop-i.at.at (column_told s c.in-Ok.c) c.in-Ok.next.at e,
+      inv.4 ∙ (more ∙ ap (λ (cs : List D.Column). read_left (count - (i + 1)) s cs c.in-Ok.next.at) (sym held)),
+      inv.5 ∙ stop_goes_on s count i less [] c.loop-i.at.at i (column_told s c.in-Ok.c) c.in-Ok.next.at e,
     )
 
-pub returns-in-Refused : goal.returns-in-Refused
-returns-in-Refused c =
+pub returns-in-Err : goal.returns-in-Err
+returns-in-Err c =
     let s = c.args.s.now in
     let count = c.args.count in
     let i = c.loop-i.i in
@@ -87,9 +87,9 @@ returns-in-Refused c =
     let less = c.loop-i-test.true in
     let at = c.loop-i.at.at in
     let cols = map (column_told s) (take i c.loop-i.list) in
-    let e = sym c.read_column-r.ensures.told ∙ ap (column_read_told s) c.in-Refused.is in
+    let e = sym c.in-Err.ensures.told in
     record {
-      told = sym (listed (goal.at.returns-in-Refused c).Start inv.1 ∙ (inv.4 ∙ left_stops s count i less cols at _ e));
+      told = sym (listed (goal.at.returns-in-Err c).Start inv.1 ∙ (inv.4 ∙ left_stops s count i less cols at _ e));
       stop = sym (stops-inside count s c.args.cursor.at inv.1 ∙ (inv.5 ∙ stop_is s count i less [] at i _ e));
     }
 

@@ -17,6 +17,3 @@ invariant-loop-i l =
     × (l.at.at ≤ length l.s)
     × (read_at (read_columns l.count) l.s l.initial.at.at ≡ read_left (l.count - l.i) l.s (map (column_told l.s) (take l.i l.list)) l.at.at)
     × (stop_of l.count l.s 0 l.initial.at.at ≡ stop_of (l.count - l.i) l.s l.i l.at.at)
-
-abbrev pub decreases-loop-i : goal.decreases-loop-i
-decreases-loop-i l = l.count - l.i

@@ -2,13 +2,13 @@
 use mathlib.Core.Path.{refl}
 use Rattle.column_rule.proofs.names_fit.Goals as goal
 
-pub returns-in-Names : goal.returns-in-Names
-returns-in-Names c =
+pub returns-in-Some : goal.returns-in-Some
+returns-in-Some c =
     rw (
-      c.in-Names.is,
-      c.both-in-Names.ensures,
+      c.in-Some.is,
+      c.both-in-Some.ensures,
       c.name_fits.ensures 1 refl,
       c.both.ensures,
-      c.name_fits-in-Names.ensures 1 refl,
-      c.name_fits-in-Names-2.ensures 2 refl,
+      c.name_fits-in-Some.ensures 1 refl,
+      c.name_fits-in-Some-2.ensures 2 refl,
     )

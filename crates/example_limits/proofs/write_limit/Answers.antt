@@ -2,5 +2,5 @@
 use Rattle.wire.proofs.Writing.{count_fits}
 use Rattle.example_limits.proofs.write_limit.Goals as goal
 
-pub returns-in-Bytes : goal.returns-in-Bytes
-returns-in-Bytes c = count_fits _ _ _ c.in-Bytes.ensures.answer
+pub returns-in-Ok : goal.returns-in-Ok
+returns-in-Ok c = count_fits _ _ _ c.in-Ok.ensures.answer

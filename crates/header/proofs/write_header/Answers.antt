@@ -52,6 +52,6 @@ returns c =
     record {
       answer = h.0;
       room = rw
-          (c.put_high-2.ensures, c.put_high.ensures, c.status_byte.ensures, c.type_byte.ensures)
+          (c.put_high-2.ensures, c.put_high.ensures, c.from-2.ensures, c.from.ensures)
           (sets-front a.out.now b l ∙ h.1);
     }

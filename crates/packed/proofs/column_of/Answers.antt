@@ -11,19 +11,19 @@ returns-then-r-lt16 c =
     let a = c.args in
     c.broken.ensures ∙ made_broken a.r.now a.database a.owner a.collection (short a.r.now c.if-r-lt16.true)
 
-pub returns-in-Type : goal.returns-in-Type
-returns-in-Type c =
+pub returns-in-Some : goal.returns-in-Some
+returns-in-Some c =
     let a = c.args in
     let k = sym c.keeps_places.ensures ∙ c.if-keeps_places.true in
-    let t = ap type_read_told (sym c.in-Type.is) ∙ c.type_of-t.ensures in
-    c.fields_of.ensures ∙ made_typed a.r.now a.database a.owner a.collection k c.in-Type.ty t
+    let t = ap type_read_told (sym c.in-Some.is) ∙ c.type_of-t.ensures in
+    c.fields_of.ensures ∙ made_typed a.r.now a.database a.owner a.collection k c.in-Some.ty t
 
-pub returns-in-Unknown : goal.returns-in-Unknown
-returns-in-Unknown c =
+pub returns-in-None : goal.returns-in-None
+returns-in-None c =
     let a = c.args in
     let k = sym c.keeps_places.ensures ∙ c.if-keeps_places.true in
-    let t = ap type_read_told (sym c.in-Unknown.is) ∙ c.type_of-t.ensures in
-    c.broken-in-Unknown.ensures ∙ made_unknown a.r.now a.database a.owner a.collection k unknown t
+    let t = ap type_read_told (sym c.in-None.is) ∙ c.type_of-t.ensures in
+    c.broken-in-None.ensures ∙ made_unknown a.r.now a.database a.owner a.collection k unknown t
 
 pub returns : goal.returns
 returns c =

@@ -13,6 +13,3 @@ invariant-loop-i l =
     (l.i ≤ l.n)
     × ((at : ℕ) → start_of (length (table_made l.table)) (length l.s) at ≡ row_judged_told l.initial.state →
     Judged (table_made l.table) l.s at (row_judged_told l.initial.state) l.i (row_judged_told l.state))
-
-abbrev pub decreases-loop-i : goal.decreases-loop-i
-decreases-loop-i l = l.n - l.i

@@ -22,6 +22,3 @@ invariant-loop-i l =
     × (length l.out ≡ length l.initial.out)
     × ((at : ℕ) → normal_told l.fits ≡ map_read length (form l.table l.s at (length l.initial.out)) → l.initial.run ≡ open_of (normal_told l.fits) at
     → Copied (table_made l.table) l.s at l.initial.out (form l.table l.s at (length l.initial.out)) l.i l.run l.out)
-
-abbrev pub decreases-loop-i : goal.decreases-loop-i
-decreases-loop-i l = l.n - l.i

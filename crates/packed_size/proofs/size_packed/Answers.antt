@@ -1,15 +1,15 @@
 -- `packed_size::size_packed` meets its contract: the values are judged before anything else. Assumes nothing.
-use mathlib.Core.Path.{sym, ap, ◌∙◌}
+use mathlib.Core.Path.{sym}
 use Rattle.format.specs.Answer.{wrote}
-use Rattle.packed_value.specs.Made.{judged_told}
+use Rattle.wire.proofs.Exit.{exit_is}
 use Rattle.packed_size.proofs.size_packed.Goals as goal
 
 pub size_judged-requires : goal.size_judged-requires
-size_judged-requires c = sym c.judge_values-judged.ensures ∙ ap judged_told c.in-Fine.is
+size_judged-requires c = sym c.in_ok-judge_values.ensures
 
-pub returns-in-Fine : goal.returns-in-Fine
-returns-in-Fine c = c.size_judged.ensures ∙ rw (sym c.judge_values-judged.ensures ∙ ap judged_told c.in-Fine.is)
+pub returns : goal.returns
+returns c = rw (← c.in_ok-judge_values.ensures) c.size_judged.ensures
 
-pub returns-in-Refused : goal.returns-in-Refused
+pub returns-in_err-judge_values : goal.returns-in_err-judge_values
 unfolding wrote
-returns-in-Refused c = rw (sym c.judge_values-judged.ensures ∙ ap judged_told c.in-Refused.is)
+returns-in_err-judge_values c = rw (exit_is _ _ c.from_residual.ensures.1) (rw (← c.in_err-judge_values.ensures))

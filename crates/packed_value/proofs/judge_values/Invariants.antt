@@ -1,11 +1,7 @@
 use mathlib.Core.Path.{◌≡◌}
-use Prim.Native.Nat.{◌≤◌, ◌-◌}
 use Rattle.packed_value.specs.Numbers.{no_values}
 use Rattle.packed_value.proofs.Listed.{left}
 use Rattle.packed_value.proofs.judge_values.Given as goal
 
 abbrev pub invariant-loop-i : goal.invariant-loop-i
-invariant-loop-i l = (l.i ≤ l.n) × (left l.values l.i ≡ no_values l.values)
-
-abbrev pub decreases-loop-i : goal.decreases-loop-i
-decreases-loop-i l = l.n - l.i
+invariant-loop-i l = left l.values l.i ≡ no_values l.values

@@ -1,8 +1,10 @@
+-- The loop's invariant is `Filled` of row_step, over the columns and the values that the numbers stand for.
 use mathlib.Core.Path.{◌≡◌}
 use mathlib.Core.List.{List}
-use Prim.Native.Nat.{ℕ, ◌≤◌, ◌-◌}
+use Prim.Native.Nat.{ℕ}
 use lib.ListN.{length}
-use Rattle.format.specs.Answer.{Answer}
+use Rattle.format.specs.Answer.{Answer, wrote}
+use Rattle.row_step.specs.Steps.{turns_of}
 use Rattle.row_step.proofs.Filling.{answer, Filled}
 use Rattle.packed.specs.Made.{table_made}
 use Rattle.packed_value.specs.Made.{givens_made}
@@ -13,10 +15,8 @@ abbrev pub row : List ℕ → List ℕ → List ℕ → List ℕ → Answer (Lis
 row out₀ table values buffer = answer buffer (table_made table) (givens_made values) out₀
 
 abbrev pub invariant-loop-i : goal.invariant-loop-i
-invariant-loop-i l =
-    (l.i ≤ l.n)
-    × (length l.out ≡ length l.initial.out)
-    × Filled l.buffer (table_made l.table) (givens_made l.values) l.initial.out (row l.initial.out l.table l.values l.buffer) l.i l.at l.out
-
-abbrev pub decreases-loop-i : goal.decreases-loop-i
-decreases-loop-i l = l.n - l.i
+invariant-loop-i l = record {
+  turns : l.n ≡ turns_of (wrote (row l.initial.out l.table l.values l.buffer)) (length (table_made l.table));
+  same : length l.out ≡ length l.initial.out;
+  filled : Filled l.buffer (table_made l.table) (givens_made l.values) l.initial.out (row l.initial.out l.table l.values l.buffer) l.i l.at l.out;
+}

@@ -1,41 +1,31 @@
 -- `plp::open_walk` meets its contract: the number that the eight bytes are, and what it says. Assumes nothing.
-use mathlib.Core.Path.{◌≡◌, ap, sym, ◌∙◌}
-use Rattle.format.specs.Answer.{took, stops, read_at}
-use Rattle.format.specs.Number.{read_low}
+use mathlib.Core.Path.{sym}
 use Rattle.format.proofs.Opening.{open_null, open_chunked, open_refused, open_missing}
-use Rattle.wire.specs.Told.{refusal_told, number_told}
-use Rattle.plp_rule.specs.Told.{total_told, eight_told}
-use Rattle.plp.proofs.Heads.{low-stops}
-use Rattle.plp.proofs.open_walk.Goals.{In-Number}
+use Rattle.wire.specs.Told.{refusal_told}
+use Rattle.wire.proofs.Exit.{exit_is}
+use Rattle.plp_rule.specs.Told.{total_told}
 use Rattle.plp.proofs.open_walk.Goals as goal
 
-pub returns-in_default : goal.returns-in_default
-returns-in_default c =
+pub returns-in_err-n : goal.returns-in_err-n
+returns-in_err-n c =
     let a = c.args in
-    let e = refusal_told c.in_default.field-0 in
-    let h : read_at (read_low 8) a.s.now a.from.at ≡ stops e = sym c.low.ensures.0 ∙ ap number_told c.in_default.is in
-    sym (open_missing a.text a.s.now a.from.at e h ∙ ap stops (low-stops 8 a.s.now a.from.at e h))
-
--- the eight bytes are a number
-number : (c : In-Number) →
-    let a = c.args in
-    read_at (read_low 8) a.s.now a.from.at ≡ took c.in-Number.n c.in-Number.next.at
-number c = sym c.low.ensures.0 ∙ ap number_told c.in-Number.is
+    let e = refusal_told c.in_err-n.field-0.0 in
+    rw (exit_is _ _ c.from_residual.ensures.1) (sym (open_missing a.text a.s.now a.from.at e (sym c.in_err-n.ensures.0)))
 
 pub returns-in-Null : goal.returns-in-Null
 returns-in-Null c =
     let a = c.args in
-    let e = sym c.eight_of-eight.ensures ∙ ap eight_told c.in-Null.is in
-    sym (open_null a.text a.s.now a.from.at _ _ (number (goal.at.returns-in-Null c).In-Number) e)
+    let e = rw c.in-Null.is at c.in_ok-eight_of.ensures in
+    sym (open_null a.text a.s.now a.from.at _ _ (sym c.in_ok-n.ensures.0) (sym e))
 
 pub returns-in-Chunked : goal.returns-in-Chunked
 returns-in-Chunked c =
     let a = c.args in
-    let e = sym c.eight_of-eight.ensures ∙ ap eight_told c.in-Chunked.is in
-    sym (open_chunked a.text a.s.now a.from.at _ _ (number (goal.at.returns-in-Chunked c).In-Number) (total_told c.in-Chunked.total) e)
+    let e = rw c.in-Chunked.is at c.in_ok-eight_of.ensures in
+    sym (open_chunked a.text a.s.now a.from.at _ _ (sym c.in_ok-n.ensures.0) (total_told c.in-Chunked.total) (sym e))
 
-pub returns-in-Refused : goal.returns-in-Refused
-returns-in-Refused c =
+pub returns-in_err-eight_of : goal.returns-in_err-eight_of
+returns-in_err-eight_of c =
     let a = c.args in
-    let e = sym c.eight_of-eight.ensures ∙ ap eight_told c.in-Refused.is in
-    sym (open_refused a.text a.s.now a.from.at _ _ (number (goal.at.returns-in-Refused c).In-Number) (refusal_told c.in-Refused.e) e)
+    rw (exit_is _ _ c.from_residual-in_err-eight_of.ensures.1)
+    (sym (open_refused a.text a.s.now a.from.at _ _ (sym c.in_ok-n.ensures.0) _ (sym c.in_err-eight_of.ensures)))

@@ -1,7 +1,7 @@
 -- `plp_join::join_plp` meets its contract: behind the end refusal 1, else the value that the rest begins with. Assumes nothing.
+use Rattle.std.specs.Prelude.{Option}
 use mathlib.Core.Path.{ap, ◌∙◌}
 use mathlib.Core.List.{List}
-use mathlib.Core.Option.{Option}
 use Prim.Native.Nat.{ℕ}
 use Rattle.lists.proofs.Lent.{rest_is}
 use Rattle.format.specs.Answer.{Read, map_read, room_after_read}

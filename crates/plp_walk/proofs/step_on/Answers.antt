@@ -1,18 +1,13 @@
 -- `plp_walk::step_on` meets its contract: what the walk over chunks answers, and the old place at a refusal. Assumes nothing.
-use mathlib.Core.Path.{ap, sym, ◌∙◌}
+use mathlib.Core.Path.{ap}
 use Rattle.format.specs.Plp.{moved_by, stepped}
-use Rattle.plp.specs.Told.{walked_told}
 use Rattle.plp_walk.specs.Told.{standing_told}
 use Rattle.plp_walk.proofs.step_on.Goals as goal
 
-pub returns-in-Walked : goal.returns-in-Walked
+pub returns-in-Ok : goal.returns-in-Ok
 unfolding stepped
-returns-in-Walked c =
-    let a = c.args in
-    ap (moved_by (standing_told a.s.now a.from)) (sym (ap walked_told c.in-Walked.is) ∙ c.walk_chunks-walked.ensures)
+returns-in-Ok c = let a = c.args in ap (moved_by (standing_told a.s.now a.from)) c.in-Ok.ensures
 
-pub returns-in-Refused : goal.returns-in-Refused
+pub returns-in-Err : goal.returns-in-Err
 unfolding stepped
-returns-in-Refused c =
-    let a = c.args in
-    ap (moved_by (standing_told a.s.now a.from)) (sym (ap walked_told c.in-Refused.is) ∙ c.walk_chunks-walked.ensures)
+returns-in-Err c = let a = c.args in ap (moved_by (standing_told a.s.now a.from)) c.in-Err.ensures

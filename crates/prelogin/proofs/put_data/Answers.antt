@@ -10,7 +10,7 @@ returns c =
       c.truth_byte.ensures,
       c.put_high-3.ensures,
       c.put_byte.ensures,
-      c.encryption_byte.ensures,
+      c.from.ensures,
       c.put_high-2.ensures,
       c.put_high.ensures,
     )

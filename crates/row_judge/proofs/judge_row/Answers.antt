@@ -10,7 +10,6 @@ pub loop-i-init : goal.loop-i-init
 loop-i-init c =
     let a = c.args in record {
       turns = rw (← c.start-state.ensures) c.turns-n.ensures;
-      upto = omega arith;
       judged = rw c.start-state.ensures (judging_begins a.cols.now a.s.now a.cursor.at _ refl);
     }
 
@@ -33,7 +32,6 @@ loop-i-preserved c =
     let a = c.args in
     let i = c.loop-i.invariant in record {
       turns = i.turns;
-      upto = omega arith;
       judged = judging_next a.cols.now a.s.now a.cursor.at _ c.loop-i.i (row_judged_told c.loop-i.state) _ c.column_at-c.result
           (turn (goal.at.loop-i-preserved c).In-loop-i) i.judged c.column_at-c.ensures c.judge_on-state.ensures;
     }

@@ -24,8 +24,6 @@ loop-i-init c =
     let a = c.args in
     let e = fits (goal.at.loop-i-init c).After-fit_in-fits in record {
       turns = rw (← e) c.turns-n.ensures;
-      upto = omega arith;
-      same = refl;
       copied = copying_begins a.cols.now a.s.now a.cursor.at a.out.now _ c.open_run-run.result refl
           (c.open_run-run.ensures ∙ ap (λ (d : Read ℕ). open_of d a.cursor.at) e);
     }
@@ -49,10 +47,8 @@ pub loop-i-preserved : goal.loop-i-preserved
 loop-i-preserved c =
     let a = c.args in
     let i = c.loop-i.invariant in
-    let same : length c.normal_on-run.new.out ≡ length a.out.now = c.normal_on-run.auto.out ∙ i.same in record {
+    let same : length c.normal_on-run.new.out ≡ length a.out.now = c.normal_on-run.auto.out ∙ c.loop-i.auto.out in record {
       turns = i.turns;
-      upto = omega arith;
-      same = same;
       copied = copying_next a.cols.now a.s.now a.cursor.at a.out.now _ c.loop-i.i c.loop-i.run _ c.loop-i.out _ c.column_at-c.result
           (turn (goal.at.loop-i-preserved c).In-loop-i) i.copied c.column_at-c.ensures same c.normal_on-run.ensures;
     }

@@ -1,5 +1,5 @@
 -- The loop's invariant is `Copied` of normal_step: what the run holds and what is left of the columns give the normal form, or the room is as it was.
-use Rattle.std.proofs.Common.{◌≡◌, ◌-◌, ◌≤◌, length}
+use Rattle.std.proofs.Common.{◌≡◌, length}
 use Rattle.format.specs.Answer.{map_read}
 use Rattle.normal_step.specs.Steps.{turns_of}
 use Rattle.normal_step.proofs.Copying.{answer, Copied}
@@ -8,10 +8,5 @@ use Rattle.row_normal.proofs.normal_row.Given as goal
 abbrev pub invariant-loop-i : goal.invariant-loop-i
 invariant-loop-i l = record {
   turns : l.n ≡ turns_of (map_read length (answer l.cols l.s l.fn.cursor.at l.initial.out)) (length l.cols);
-  upto : l.i ≤ l.n;
-  same : length l.out ≡ length l.initial.out;
   copied : Copied l.cols l.s l.fn.cursor.at l.initial.out (answer l.cols l.s l.fn.cursor.at l.initial.out) l.i l.run l.out;
 }
-
-abbrev pub decreases-loop-i : goal.decreases-loop-i
-decreases-loop-i l = l.n - l.i

@@ -21,7 +21,6 @@ pub loop-i-init : goal.loop-i-init
 loop-i-init c =
     let a = c.args in record {
       turns = c.turns-n.ensures;
-      upto = omega arith;
       same = refl;
       joined = λ b. rw c.first-place.ensures (joining_begins a.cols.now a.s.now a.cursor.at a.out.now b);
     }
@@ -47,7 +46,6 @@ loop-i-preserved c =
     let a = c.args in
     let i = c.loop-i.invariant in record {
       turns = i.turns;
-      upto = omega arith;
       same = c.join_on-place.auto.out ∙ i.same;
       joined = joining_next a.cols.now a.s.now a.cursor.at a.out.now (row_judged_told c.fit_in-fits.result)
           (fits (goal.at.loop-i-preserved c).After-fit_in-fits)

@@ -1,12 +1,11 @@
 -- `value_look::length_byte` meets its contract: null, then a listed width, then the declared length, then the bytes, in the definition's order.
 -- Assumes nothing.
-use mathlib.Core.Path.{sym, ap, ◌∙◌}
+use mathlib.Core.Path.{◌∙◌}
 use Prim.Native.Nat.{◌<◌}
 use native.Mathlib.Omega.{arith}
 use lib.ListN.{length}
 use Rattle.format.specs.Value.{read_length_byte}
 use Rattle.value_kind.specs.Told.{listed_told}
-use Rattle.value_look.specs.Told.{listed_kind_told}
 use Rattle.value_look.proofs.Seeing.{no_byte, byte-null, byte_unlisted, byte-long, byte_scalar}
 use Rattle.value_look.proofs.length_byte.Goals as goal
 
@@ -34,9 +33,8 @@ pub returns-then-declared-n : goal.returns-then-declared-n
 returns-then-declared-n c =
     let a = c.args in
     let h : 0 < length a.rest.now = omega (arith, c.if-rest-eq0.false) in
-    let k = sym (ap listed_kind_told c.in-Kind.is) ∙ c.of_width-wide.ensures in
     record {
-      told = byte-long (listed_told a.l) a.declared a.rest.now h c.if-n-eq0.false _ k c.if-declared-n.true;
+      told = byte-long (listed_told a.l) a.declared a.rest.now h c.if-n-eq0.false _ c.in-Some.ensures c.if-declared-n.true;
       lies = tt;
     }
 
@@ -44,19 +42,17 @@ pub returns-else-declared-n : goal.returns-else-declared-n
 returns-else-declared-n c =
     let a = c.args in
     let h : 0 < length a.rest.now = omega (arith, c.if-rest-eq0.false) in
-    let k = sym (ap listed_kind_told c.in-Kind.is) ∙ c.of_width-wide.ensures in
-    let e = byte_scalar (listed_told a.l) a.declared a.rest.now h c.if-n-eq0.false _ k c.if-declared-n.false in
+    let e = byte_scalar (listed_told a.l) a.declared a.rest.now h c.if-n-eq0.false _ c.in-Some.ensures c.if-declared-n.false in
     record {
       told = c.scalar.ensures.told ∙ e;
       lies = c.scalar.ensures.lies a.declared;
     }
 
-pub returns-in-Unlisted : goal.returns-in-Unlisted
-returns-in-Unlisted c =
+pub returns-in-None : goal.returns-in-None
+returns-in-None c =
     let a = c.args in
     let h : 0 < length a.rest.now = omega (arith, c.if-rest-eq0.false) in
-    let k = sym (ap listed_kind_told c.in-Unlisted.is) ∙ c.of_width-wide.ensures in
     record {
-      told = byte_unlisted (listed_told a.l) a.declared a.rest.now h c.if-n-eq0.false k;
+      told = byte_unlisted (listed_told a.l) a.declared a.rest.now h c.if-n-eq0.false c.in-None.ensures;
       lies = tt;
     }

@@ -8,6 +8,3 @@ use Rattle.number.proofs.inner.put_low.Given as goal
 abbrev pub invariant-loop-i : goal.invariant-loop-i
 invariant-loop-i l = (l.i ≤ l.w) × (length l.out ≡ length l.initial.out) × (sets l.out (l.at + l.i) (low_bytes (l.w - l.i) l.m) ≡ sets l.initial.out l.at
     (low_bytes l.w l.n))
-
-abbrev pub decreases-loop-i : goal.decreases-loop-i
-decreases-loop-i l = l.w - l.i

@@ -11,6 +11,3 @@ abbrev pub invariant-loop-i : goal.invariant-loop-i
 invariant-loop-i l =
     (l.i ≤ l.n) × (length l.values ≡ length l.initial.values) × (length l.out ≡ length l.initial.out)
     × Slotted (table_made l.table) l.s l.initial.place.cursor.at l.initial.values l.initial.out l.i (place_told l.place) l.values l.out
-
-abbrev pub decreases-loop-i : goal.decreases-loop-i
-decreases-loop-i l = l.n - l.i

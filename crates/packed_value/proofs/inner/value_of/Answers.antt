@@ -34,11 +34,11 @@ returns-in-5 c = rw (c.in-5.is, to_z-of_z {w = w64} (record { sfits = c.to_i64.t
 
 pub returns-in-6 : goal.returns-in-6
 unfolding value_made
-returns-in-6 c = rw (c.in-6.is, c.float32.ensures)
+returns-in-6 c = rw (c.in-6.is, c.from.ensures, c.from_bits32.ensures)
 
 pub returns-in-7 : goal.returns-in-7
 unfolding value_made
-returns-in-7 c = rw (c.in-7.is, c.float64.ensures, whole c.args.first (search rules))
+returns-in-7 c = rw (c.in-7.is, c.from-in-7.ensures, c.from_bits64.ensures, whole c.args.first (search rules))
 
 pub returns-in-8 : goal.returns-in-8
 unfolding value_made

@@ -8,6 +8,8 @@ use lib.ListN.{length}
 use Rattle.format.specs.Scalar as S
 use Rattle.format.specs.Scalar.{scalar_of}
 use Rattle.format.proofs.Number.{Bytes}
+use Rattle.value_kind.specs.Told.{made32, made64}
+use Rattle.value_kind.proofs.Canonical.{float32_read, float64_read}
 use Rattle.scalar_read.proofs.Reading.{whole, guid_there}
 use Rattle.scalar_read.proofs.inner.scalar_at.Goals as goal
 
@@ -81,17 +83,21 @@ returns-in-I64 c =
 pub returns-in-F32 : goal.returns-in-F32
 unfolding scalar_of
 returns-in-F32 c =
+    let p = float32_read c.low_at-in-F32.result c.low_at-in-F32.ensures.small in
+    let e = (c.from.ensures ∙ ap made32 c.from_bits32.ensures) in
     record {
-      told = rw (c.in-F32.is, ← c.low_at-in-F32.ensures.value) c.float32.ensures.0;
-      canonical = c.float32.ensures.1;
+      told = rw (c.in-F32.is, e, ← c.low_at-in-F32.ensures.value) p.0;
+      canonical = rw e p.1;
     }
 
 pub returns-in-F64 : goal.returns-in-F64
 unfolding scalar_of
 returns-in-F64 c =
+    let p = float64_read c.low_at-in-F64.result c.low_at-in-F64.ensures.small in
+    let e = (c.from-in-F64.ensures ∙ ap made64 c.from_bits64.ensures) in
     record {
-      told = rw (c.in-F64.is, ← c.low_at-in-F64.ensures.value) c.float64.ensures.0;
-      canonical = c.float64.ensures.1;
+      told = rw (c.in-F64.is, e, ← c.low_at-in-F64.ensures.value) p.0;
+      canonical = rw e p.1;
     }
 
 pub returns-in-Guid : goal.returns-in-Guid

@@ -1,8 +1,8 @@
 -- `value_form::inner::length_byte` meets its contract: the length and the bytes as they came, but for a bit. Assumes nothing.
+use Rattle.std.specs.Prelude.{Some}
 use mathlib.Core.Path.{◌≡◌, sym, ◌∙◌}
 use Prim.Native.Nat.{ℕ, ◌<◌}
 use native.Mathlib.Omega.{arith}
-use mathlib.Core.Option.{some}
 use lib.ListN.{length, get_or}
 use Rattle.format.specs.Value.{length_byte}
 use Rattle.format.proofs.Number.{Bytes}
@@ -35,7 +35,7 @@ returns-then-n-ne1 c d i =
 
 -- a bit behind a length of 1
 bit : (c : Then-is_listed) (d : ℕ) → let a = c.args in
-    IsRead (normal_in d (some (length_byte (listed_told a.l))) a.rest.now) → ListedBit a.l d a.rest.now
+    IsRead (normal_in d (Some (length_byte (listed_told a.l))) a.rest.now) → ListedBit a.l d a.rest.now
 bit c d i =
     let a = c.args in
     listed-bit a.l d a.rest.now i c.if-n-ne1.false (sym c.is_listed.ensures ∙ c.if-is_listed.true)

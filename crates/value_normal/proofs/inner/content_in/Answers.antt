@@ -1,7 +1,7 @@
 -- `value_normal::inner::content_in` meets its contract: the run is copied, and the chunks joined are put behind it in the one form. Assumes nothing.
+use Rattle.std.specs.Prelude.{Some}
 use mathlib.Core.Path.{◌≡◌, refl, ap, ◌∙◌}
 use mathlib.Core.List.{List}
-use mathlib.Core.Option.{some}
 use Prim.Native.Nat.{ℕ, ◌+◌, ◌-◌, ◌≤◌}
 use native.Mathlib.Omega.{arith}
 use lib.ListN.{length, drop}
@@ -38,7 +38,7 @@ judged_at_after_formed c = let a = c.args in content_fits a.s.now (length a.out.
 
 -- how many bytes the form has
 size : (c : After-formed) → let a = c.args in
-    c.formed.result ≡ length (plp_bytes (some (content_of a.text (drop a.run.at a.s.now))))
+    c.formed.result ≡ length (plp_bytes (Some (content_of a.text (drop a.run.at a.s.now))))
 size c = c.formed.ensures.0 _ (judged_at_after_formed c).counts.long
 
 -- the form ends inside the room
@@ -75,6 +75,6 @@ pub returns : goal.returns
 returns c =
     let a = c.args in
     let o = c.close_run-o.result in
-    let ys = c.put_plp.ensures ∙ ap (λ (l : List ℕ). plp_bytes (some (content_of a.text l))) (rest_is a.s.now a.run.at) in
+    let ys = c.put_plp.ensures ∙ ap (λ (l : List ℕ). plp_bytes (Some (content_of a.text l))) (rest_is a.s.now a.run.at) in
     content_grows a.s.now a.out.now _ _ _ a.run (read_plp c.args.text (drop c.args.run.at c.args.s.now)) a.count a.end o _ (judged (goal.at.returns c).Start)
     c.close_run-o.ensures.1 c.close_run-o.ensures.0 (ap (λ (k : ℕ). o + k) (size (goal.at.returns c).After-formed)) ys refl
