@@ -5,7 +5,7 @@
 - Structs: fields, order, widths and places are the same in C and Rust, without padding, and have the layout of the source's
   arrays and of its answer; a column's fields stand where `record_of` of crates/packed/specs puts them.
 - Numbers: every enumerator of the header is a constant of the Rust; the refusals are those of crates/board_answer, the type
-  bytes those of crates/column_byte.
+  bytes those of crates/column_type.
 - Every `unsafe` of the safe crate says why it is sound.
 - docs/BOARD.md names every export, and what stands at the lines of the Rust's files that it names.
 """
@@ -161,7 +161,7 @@ def number_faults(root, text, rust_text):
         yield '%s is %d in C or Rust alone' % name
     declared = re.search(r'(?s)enum Refusal \{(.*?)\}', (root / 'crates/wire/src/lib.rt').read_text())[1]
     refusals = {re.sub(r'(?<!^)(?=[A-Z])', '_', name).upper(): int(number) for name, number in re.findall(r'(\w+) = (\d),', declared)}
-    types = {'TYPE_' + name.upper(): int(number, 16) for name, number in re.findall(r'::(\w+) => 0x(\w\w),', (root / 'crates/column_byte/src/lib.rt').read_text())}
+    types = {'TYPE_' + name.upper(): int(number, 16) for number, name in re.findall(r'0x(\w\w) => Ok\(.*?(\w+)\)+,', (root / 'crates/column_type/src/byte.rt').read_text())}
     if len(refusals) != 9 or len(types) != 36:
         yield 'the source has %d refusals and %d type bytes where they are looked for' % (len(refusals), len(types))
     for name, number in (refusals | types).items():

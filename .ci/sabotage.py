@@ -53,7 +53,7 @@ NAMES_AND_LISTS = [
     Sabotage('crates/format/specs/Guid.antt', '-- ', '-- %s ' % ('long ' * 40), 'crates/format/specs/Guid.antt:1: '),
     # docs/PUBLIC.md
     Sabotage('docs/PUBLIC.md', ', `morelquilt::Span`', '', 'the type morelquilt::Span is not listed'),
-    Sabotage('docs/PUBLIC.md', 'the modules `bits::signed` (two\'s complement) and', 'the modules', 'bits::signed::of_i16 is a `pub fn` on neither list'),
+    Sabotage('docs/PUBLIC.md', 'the module `bits::signed` (two\'s complement).', 'the module.', 'bits::signed::of_i16 is a `pub fn` on neither list'),
     Sabotage('docs/PUBLIC.md', '`value_part!short_at_length`, ', '', 'morelquilt::Cursor::short_content has 1 must-fail edits'),
     Sabotage('docs/PUBLIC.md', '`untyped_size!string_by_units`', '`format!untyped_bound_moved`', 'morelquilt::untyped_size has 1 wrong programs among its edits'),
     Sabotage('.ci/complete.py', 'PROMISE_ONLY = [', "PROMISE_ONLY = ['morelquilt::Cursor::low', ", 'morelquilt::Cursor::low has 2 wrong programs among its edits, and is listed as having none'),
@@ -62,7 +62,7 @@ NAMES_AND_LISTS = [
     Sabotage('docs/PUBLIC.md', '| `column_size::column_size` |', '| `column_write::write_column` |', 'morelquilt::column_size is proved as column_size::column_size'),
     Sabotage('docs/PUBLIC.md', '`text!room_one_short`, ', '`value_write!room_one_short`, ', 'morelquilt::to_utf16 does not use the crate of value_write!room_one_short'),
     Sabotage('docs/PUBLIC.md', ', and the room afterwards ≡ `room_after_join text s at room`', '', 'morelquilt::Cursor::join_plp has a room, and its row does not say room_after_join'),
-    Sabotage('crates/columns/src/inner.rt', ', for the crates of this repository.', '.', 'crates/columns/src/inner.rt does not say for whom it is'),
+    Sabotage('crates/guid/src/inner.rt', ', for the crates of this repository.', '.', 'crates/guid/src/inner.rt does not say for whom it is'),
     Sabotage('crates/untyped_write/src/lib.rt', 'mod inner;', 'pub mod inner;', 'crates/untyped_write/src/inner.rt is for no crate but its own, and is public'),
     # the exports
     Sabotage('crates/board/src/lib.rt', '// How many bytes UTF-8 takes in UTF-16LE.\n', '#[unsafe(no_mangle)]\npub extern "C" fn morelquilt_stray() -> Counted\n{\n    board_answer::unknown()\n}\n\n// ',

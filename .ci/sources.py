@@ -13,7 +13,7 @@ TYPE = re.compile(r'pub (?:enum|struct|type) (\w+)')
 CONSTANT = re.compile(r'pub const (\w+)\s*:')
 MODULE = re.compile(r'pub mod (\w+);')
 REEXPORT = re.compile(r'pub use ([\w:]+)::(\w+|\{[^}]*\});')
-IMPL = re.compile(r'impl (\w+) \{')
+IMPL = re.compile(r'impl(?:<[^>]*>)? (\w+)(?:<[^>]*>)? \{')
 CLAUSE = re.compile(r'\s*(?:ensures|requires)\b')
 VARIANT = re.compile(r'    ([A-Z]\w*)\b')
 
@@ -150,7 +150,7 @@ class Sources:
         name = '/'.join(modules) + '.rt' if modules else 'lib.rt'
         text = (self.crates / crate / 'src' / name).read_text()
         if owner:
-            text = re.search(r'(?ms)^impl %s \{.*?^\}' % owner, text)[0]
+            text = re.search(r'(?ms)^impl(?:<[^>]*>)? %s(?:<[^>]*>)? \{.*?^\}' % owner, text)[0]
         lines = text[re.search(r'(?m)^ *pub (?:extern "C" )?fn %s[(<]' % words[-1], text).start():].splitlines()
         return '\n'.join(lines[:body_at(lines) + 1])
 

@@ -4,9 +4,13 @@ use mathlib.Core.Path.{◌≡◌, refl, sym, ◌∙◌, subst, subst⁻¹}
 use mathlib.Core.Bool.{Bool, true, false, not}
 use Prim.Native.Nat.{ℕ, ◌*◌, ◌%◌, ◌^◌, ◌<◌, ◌≤◌}
 use lib.Dec.{T}
-use lib.Ieee.{Format, binary32, binary64, Float, nan, inf, fin, ones, hid, top, ne, is_nan, nan_bits, of_bits}
+use lib.Ieee.{Format, binary32, binary64, Float, nan, inf, fin, ones, hid, top, is_nan, nan_bits, of_bits, to_bits}
 use lib.Ieee.Bits.{nan_bits_above, nan_bits_is, to_bits-of_bits}
-use lib.Ieee.Compare.{differs_from_itself, nan_differs}
+use Rattle.format.proofs.Answer.{no_truth}
+use Rattle.bits.specs.declared.float.Float32.{Float32}
+use Rattle.bits.specs.declared.float.Float32.TheVariants as F32
+use Rattle.bits.specs.declared.float.Float64.{Float64}
+use Rattle.bits.specs.declared.float.Float64.TheVariants as F64
 use Rattle.bits.specs.Told.{float32_of, float32_bits, float64_of, float64_bits}
 use borrow.Author.Tests.{lt-ltb, le-ltb}
 
@@ -20,15 +24,20 @@ nan_no f n h = nan_bits_above f n ∙ le-ltb _ _ h
 pub no_nan : (f : Format) (n : ℕ) → n % top f ≤ ones f * hid f → T (not (nan_bits f n))
 no_nan f n h = subst⁻¹ (λ (b : Bool). T (not b)) (nan_no f n h) tt
 
--- x != x
-pub itself : (x : Float) → ne x x ≡ true → x ≡ nan
-itself x h = differs_from_itself x (subst⁻¹ T h tt)
-
-pub not_itself : (x : Float) → ne x x ≡ false → T (not (is_nan x))
+-- a NaN that is handed over as a value has the quiet NaN's pattern
+quiet : (x : Float) → is_nan x ≡ true → x ≡ nan
 unfolding is_nan
-not_itself nan h = let z : true ≡ false = cc nan_differs in subst T z tt
-not_itself (inf s) h = tt
-not_itself (fin s m e) h = tt
+quiet nan h = refl
+quiet (inf s) h = no_truth h
+quiet (fin s m e) h = no_truth h
+
+pub quiet32 : (x : Float32) (v : Float) → x ≡ F32.Value v → is_nan v ≡ true → 0x7FC00000 ≡ float32_bits x
+unfolding to_bits
+quiet32 x v e h = rw (e, quiet v h)
+
+pub quiet64 : (x : Float64) (v : Float) → x ≡ F64.Value v → is_nan v ≡ true → 0x7FF8000000000000 ≡ float64_bits x
+unfolding to_bits
+quiet64 x v e h = rw (e, quiet v h)
 
 -- ---- bits, value, bits: every pattern comes back, a NaN's too
 

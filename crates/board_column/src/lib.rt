@@ -10,25 +10,27 @@ ghost use Rattle.board_column.specs.Plain.{column_given};
 ghost use Rattle.board_column.specs.Made.{column_named};
 
 use board_answer::Counted;
-use column_type::{Column, Name};
+use column_type::{Column, Name, Schema};
 
 // The column of a record, its names where the numbers say.
 fn column_of(column: &[u8; 16], n: &[u64; 6]) -> Column
     ensures { result ≡ column_named column.now n.now }
 {
-    let database = Name {
-        start: n[0] as usize,
-        units: n[1] as usize,
+    let names = Schema {
+        database: Name {
+            start: n[0] as usize,
+            units: n[1] as usize,
+        },
+        owner: Name {
+            start: n[2] as usize,
+            units: n[3] as usize,
+        },
+        collection: Name {
+            start: n[4] as usize,
+            units: n[5] as usize,
+        },
     };
-    let owner = Name {
-        start: n[2] as usize,
-        units: n[3] as usize,
-    };
-    let collection = Name {
-        start: n[4] as usize,
-        units: n[5] as usize,
-    };
-    packed::column_of(column, database, owner, collection)
+    packed::column_of(column, names)
 }
 
 // How many bytes the descriptor takes.
@@ -45,8 +47,7 @@ pub fn column_write(column: &[u8; 16], names: &[u64; 6], buffer: &[u8], out: &mu
     ensures room { out.new ≡ room_after (fitted (column_given column.now names.now buffer.now) (length out.old)) out.old }
 {
     // The common forms first.
-    let n = record_write::write_record(column, out);
-    if 0 < n {
+    if let Some(n) = record_write::write_record(column, out) {
         return board_answer::at(n);
     }
     let c = column_of(column, names);

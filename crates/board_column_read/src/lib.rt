@@ -16,21 +16,14 @@ use wire::Cursor;
 fn schema_flag(schema: Option<Schema>) -> u8
     ensures { (result ≡ M.schema_flag schema) × (result ≤ 2) }
 {
-    match schema {
-        None => 0,
-        Some(_) => 2,
-    }
+    if schema.is_some() { 2 } else { 0 }
 }
 
 // The flags: bit 0, a collation is present; bit 1.
 fn flags(collation: Option<Collation>, schema: Option<Schema>) -> u8
     ensures { result ≡ M.flags collation schema }
 {
-    let names = schema_flag(schema);
-    match collation {
-        None => names,
-        Some(_) => 1 + names,
-    }
+    u8::from(collation.is_some()) + schema_flag(schema)
 }
 
 // The collation's number, 0 where there is none.
@@ -39,7 +32,7 @@ fn info(collation: Option<Collation>) -> u64
 {
     match collation {
         None => 0,
-        Some(Collation { info: n, .. }) => n as u64,
+        Some(c) => u64::from(c.info),
     }
 }
 
@@ -49,7 +42,7 @@ fn sort(collation: Option<Collation>) -> u8
 {
     match collation {
         None => 0,
-        Some(Collation { sort: b, .. }) => b,
+        Some(c) => c.sort,
     }
 }
 
@@ -57,9 +50,10 @@ fn sort(collation: Option<Collation>) -> u8
 fn index_of(schema: Option<Schema>, index: u16) -> u64
     ensures { result ≡ M.index_of schema index }
 {
-    match schema {
-        None => 0,
-        Some(_) => index as u64,
+    if schema.is_some() {
+        u64::from(index)
+    } else {
+        0
     }
 }
 
@@ -74,15 +68,12 @@ fn low(n: u64) -> u8
 fn record_of(c: Column, index: u16) -> [u8; 16]
     ensures { result ≡ M.record_made c index }
 {
-    let ty = c.ty;
     let n = c.length;
-    let collation = c.collation;
-    let schema = c.schema;
-    let i = info(collation);
-    let x = index_of(schema, index);
+    let i = info(c.collation);
+    let x = index_of(c.schema, index);
     [
-        column_byte::type_byte(ty),
-        flags(collation, schema),
+        u8::from(c.ty),
+        flags(c.collation, c.schema),
         c.precision,
         c.scale,
         low(n),
@@ -93,7 +84,7 @@ fn record_of(c: Column, index: u16) -> [u8; 16]
         low(i / 256),
         low(i / 256 / 256),
         low(i / 256 / 256 / 256),
-        sort(collation),
+        sort(c.collation),
         0,
         low(x),
         low(x / 256),
@@ -106,19 +97,13 @@ fn names_of(schema: Option<Schema>) -> [u64; 6]
 {
     match schema {
         None => [0, 0, 0, 0, 0, 0],
-        Some(
-            Schema {
-                database: a,
-                owner: b,
-                collection: c,
-            },
-        ) => [
-            a.start as u64,
-            a.units as u64,
-            b.start as u64,
-            b.units as u64,
-            c.start as u64,
-            c.units as u64,
+        Some(three) => [
+            three.database.start as u64,
+            three.database.units as u64,
+            three.owner.start as u64,
+            three.owner.units as u64,
+            three.collection.start as u64,
+            three.collection.units as u64,
         ],
     }
 }
@@ -135,12 +120,10 @@ fn read_any(
     ensures column { column.new ≡ after (record_at index bytes.now at) column.old }
     ensures names { names.new ≡ after (spans_at bytes.now at) names.old }
 {
-    let read = column_read::read_column(bytes, Cursor { at });
-    match read {
+    match column_read::read_column(bytes, Cursor { at }) {
         Ok((c, next)) => {
-            let schema = c.schema;
             *column = record_of(c, index);
-            *names = names_of(schema);
+            *names = names_of(c.schema);
             board_answer::at(next.at)
         }
         Err(e) => board_answer::refused(e),
@@ -162,8 +145,7 @@ pub fn column_read(
     if bytes.len() < at {
         return read_any(bytes, at, index, column, names);
     }
-    let f = record_read::read_fields(&bytes[at..]);
-    if 0 < f.size {
+    if let Some(f) = record_read::read_fields(&bytes[at..]) {
         *column = record_read::record_of(f);
         *names = [0, 0, 0, 0, 0, 0];
         return board_answer::at(at + f.size);

@@ -17,10 +17,10 @@ use Rattle.format.specs.Header.{listed}
 use Rattle.format.proofs.Number.{Bytes, high_forth}
 use Rattle.format.proofs.Plain.{bytes_take, bytes_drop}
 use Rattle.wire.specs.declared.Guid.{Guid}
-use Rattle.wire.specs.Told.{guid_bytes, guid_wire, read_guid}
+use Rattle.wire.specs.Told.{widths, guid_bytes, guid_wire, read_guid}
 use Rattle.wire.proofs.Reading.{count_there, count-missing, guid_there, guid-missing}
 use Rattle.wire.proofs.GuidBack.{guid_read_back}
-use Rattle.board_number.specs.Plain.{widths, number_by, number_at, guid_at}
+use Rattle.board_number.specs.Plain.{number_by, number_at, guid_at}
 
 -- ---- a number: its width, then the order
 

@@ -1,14 +1,11 @@
 -- Numbers and GUIDs at a place of the input, asked for by plain numbers.
-use Rattle.std.specs.Prelude.{ℕ, List, [], ◌∷◌, not, eqb, ltb}
+use Rattle.std.specs.Prelude.{ℕ, List, not, eqb, ltb}
 use Rattle.lists.specs.Pick.{pick}
 use Rattle.format.specs.Answer.{Read, unknown, stop_if, map_read, read_at}
 use Rattle.format.specs.Number.{read_bytes, read_low, read_high}
 use Rattle.format.specs.Guid.{guid_order}
 use Rattle.format.specs.Header.{listed}
-
--- the widths that numbers have, in bytes
-abbrev pub widths : List ℕ
-widths = 1 ∷ 2 ∷ 4 ∷ 8 ∷ []
+use Rattle.wire.specs.Told.{widths}
 
 -- high byte first where the flag is 1, low byte first where it is 0
 abbrev pub number_by : ℕ → ℕ → List ℕ → Read ℕ

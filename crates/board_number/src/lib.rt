@@ -6,35 +6,21 @@ ghost use Rattle.std.specs.Prelude.{◌≡◌, length};
 ghost use Rattle.format.specs.Answer.{gives, read_at, fitted, wrote, room_after};
 ghost use Rattle.format.specs.Guid.{guid_order};
 ghost use Rattle.wire.specs.Told.{width_of, read_told, guid_bytes};
-ghost use Rattle.header.specs.Told.{known};
 ghost use Rattle.board_answer.specs.Told.{counted, place, after};
-ghost use Rattle.board_number.specs.Plain.{widths, number_by, number_at, guid_at};
-ghost use Rattle.board_number.specs.Told.{width_told};
+ghost use Rattle.board_number.specs.Plain.{number_by, number_at, guid_at};
 
 use board_answer::Counted;
 use wire::{Cursor, Guid, Refusal, Width};
-
-// The width of a count of bytes.
-fn width_of(n: u8) -> Option<Width>
-    ensures { width_told result ≡ known widths n }
-{
-    match n {
-        1 => Some(Width::One),
-        2 => Some(Width::Two),
-        4 => Some(Width::Four),
-        8 => Some(Width::Eight),
-        _ => None,
-    }
-}
 
 // The number at a place, in one of the two orders.
 fn read_number(bytes: &[u8], from: Cursor, w: Width, high: u8) -> Result<(u64, Cursor), Refusal>
     ensures { read_told result ≡ read_at (number_by high (width_of w)) bytes.now from.at }
 {
     if high == 1 {
-        return from.high(bytes, w);
+        from.high(bytes, w)
+    } else {
+        from.low(bytes, w)
     }
-    from.low(bytes, w)
 }
 
 // The number of a width at a place of the bytes, high byte first or low byte first.
@@ -42,14 +28,14 @@ pub fn number_read(bytes: &[u8], at: usize, width: u8, high: u8, to: &mut u64) -
     ensures answer { result ≡ counted (place (number_at width high bytes.now at)) }
     ensures room { to.new ≡ after (number_at width high bytes.now at) to.old }
 {
-    let Some(w) = width_of(width) else {
-        return board_answer::unknown();
+    let w = match Width::try_from(width) {
+        Ok(w) => w,
+        Err(e) => return board_answer::refused(e),
     };
     if 1 < high {
         return board_answer::unknown();
     }
-    let read = read_number(bytes, Cursor { at }, w, high);
-    match read {
+    match read_number(bytes, Cursor { at }, w, high) {
         Ok((n, next)) => {
             *to = n;
             board_answer::at(next.at)
@@ -72,8 +58,7 @@ pub fn guid_read(bytes: &[u8], at: usize, text: &mut [u8; 16]) -> Counted
     ensures answer { result ≡ counted (place (guid_at bytes.now at)) }
     ensures room { text.new ≡ after (guid_at bytes.now at) text.old }
 {
-    let read = (Cursor { at }).guid(bytes);
-    match read {
+    match (Cursor { at }).guid(bytes) {
         Ok((g, next)) => {
             put_text(text, g);
             board_answer::at(next.at)

@@ -13,7 +13,7 @@ use Rattle.format.specs.Answer.{Refusal, Answer, gives, refuses, Read, took, sto
 use Rattle.format.specs.Header as H
 use Rattle.format.specs.Header.{packet_types, packet_statuses, listed, header_of, read_header, header_bytes, write_header}
 use Rattle.format.specs.Prelogin.{write_prelogin}
-use Rattle.header.specs.Told.{known}
+use Rattle.wire.specs.Told.{known}
 use Rattle.board_packet.specs.Plain.{header_made, header_given, prelogin_given}
 
 -- ---- ENCRYPTION's number: known up to 3

@@ -4,7 +4,7 @@ use Rattle.format.specs.Answer.{Answer, gives, Read, unknown, refuse_if, map_rea
 use Rattle.format.specs.Header as H
 use Rattle.format.specs.Header.{packet_types, packet_statuses, read_header}
 use Rattle.format.specs.Prelogin as P
-use Rattle.header.specs.Told.{known}
+use Rattle.wire.specs.Told.{known}
 
 -- type, status, length, SPID, id, window
 abbrev pub header_numbers : H.Header → List ℕ

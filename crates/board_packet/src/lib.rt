@@ -2,7 +2,7 @@
 
 #![tactic(auto)]
 
-ghost use Rattle.std.specs.Prelude.{◌≡◌, false, ◌+◌, ◌≤◌, eqb};
+ghost use Rattle.std.specs.Prelude.{◌≡◌, false, ◌+◌, ◌≤◌};
 ghost use lib.ListN.{length};
 ghost use Rattle.std.proofs.lemmas.List.Edits.{sets};
 ghost use Rattle.lists.specs.Pick.{pick};
@@ -20,51 +20,21 @@ use wire::Refusal;
 fn is_type(b: u8) -> bool
     ensures { result ≡ listed packet_types b }
 {
-    match b {
-        1 => true,
-        2 => true,
-        3 => true,
-        4 => true,
-        6 => true,
-        7 => true,
-        8 => true,
-        14 => true,
-        16 => true,
-        17 => true,
-        18 => true,
-        _ => false,
-    }
+    matches!(b, 1 | 2 | 3 | 4 | 6 | 7 | 8 | 14 | 16 | 17 | 18)
 }
 
 // Is it the number of a packet status?
 fn is_status(b: u8) -> bool
     ensures { result ≡ listed packet_statuses b }
 {
-    match b {
-        0 => true,
-        1 => true,
-        3 => true,
-        8 => true,
-        16 => true,
-        _ => false,
-    }
+    matches!(b, 0 | 1 | 3 | 8 | 16)
 }
 
 // Are both known?
 fn is_known(ty: u8, status: u8) -> bool
     ensures { result ≡ pick (listed packet_types ty) (listed packet_statuses status) false }
 {
-    if is_type(ty) {
-        return is_status(status);
-    }
-    false
-}
-
-// A byte as a number of two.
-fn wide(b: u8) -> u16
-    ensures { result ≡ b }
-{
-    b as u16
+    is_type(ty) && is_status(status)
 }
 
 // The six numbers of the eight bytes that the rest begins with.
@@ -75,12 +45,12 @@ fn numbers(rest: &[u8]) -> [u16; 6]
     let length = wire::inner::high_at(rest, 2, 2) as u16;
     let spid = wire::inner::high_at(rest, 4, 2) as u16;
     [
-        wide(rest[0]),
-        wide(rest[1]),
+        u16::from(rest[0]),
+        u16::from(rest[1]),
         length,
         spid,
-        wide(rest[6]),
-        wide(rest[7]),
+        u16::from(rest[6]),
+        u16::from(rest[7]),
     ]
 }
 
@@ -93,11 +63,11 @@ fn header_in(rest: &[u8], at: usize, fields: &mut [u16; 6]) -> Counted
     if rest.len() < 8 {
         return board_answer::refused(Refusal::Missing);
     }
-    if is_known(rest[0], rest[1]) {
-        *fields = numbers(rest);
-        return board_answer::at(at + 8);
+    if !is_known(rest[0], rest[1]) {
+        return board_answer::unknown();
     }
-    board_answer::unknown()
+    *fields = numbers(rest);
+    board_answer::at(at + 8)
 }
 
 // The header at a place of the bytes: its six numbers, and the next place.
@@ -137,21 +107,14 @@ pub fn header_write(
     ensures answer { result ≡ counted (wrote (fitted (and_then (header_given ty status length spid id window) write_header) (lib.ListN.length out.old))) }
     ensures room { out.new ≡ room_after (fitted (and_then (header_given ty status length spid id window) write_header) (lib.ListN.length out.old)) out.old }
 {
-    if is_known(ty, status) {
-        if out.len() < 8 {
-            return board_answer::refused(Refusal::Room);
-        }
-        put_header(out, ty, status, length, spid, id, window);
-        return board_answer::at(8);
+    if !is_known(ty, status) {
+        return board_answer::unknown();
     }
-    board_answer::unknown()
-}
-
-// Is a flag set?
-fn is_set(flag: u8) -> bool
-    ensures { result ≡ eqb flag 1 }
-{
-    flag == 1
+    if out.len() < 8 {
+        return board_answer::refused(Refusal::Room);
+    }
+    put_header(out, ty, status, length, spid, id, window);
+    board_answer::at(8)
 }
 
 // The prelogin message of plain numbers, at the front of the room.
@@ -182,8 +145,8 @@ pub fn prelogin_write(
         sub_build,
         encryption,
         thread_id,
-        mars: is_set(mars),
-        fed_auth_required: is_set(fed_auth),
+        mars: mars == 1,
+        fed_auth_required: fed_auth == 1,
     };
     board_answer::answer(prelogin::write_prelogin(p, out))
 }

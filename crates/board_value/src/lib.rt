@@ -4,6 +4,7 @@
 
 ghost use Rattle.std.specs.Prelude.{◌≡◌, length};
 ghost use Rattle.format.specs.Answer.{fitted, wrote, room_after};
+ghost use Rattle.wire.specs.Told.{answer_told};
 ghost use Rattle.board_answer.specs.Told.{counted, place, after};
 ghost use Rattle.board_value.specs.Plain.{value_given, value_at, room_at};
 
@@ -11,21 +12,39 @@ use board_answer::Counted;
 use packed::inner as table;
 use packed_slot::inner as slot;
 use packed_value::inner as three;
-use wire::Cursor;
+use wire::{Cursor, Refusal};
+
+// How many bytes the value takes under the column, or why it cannot be written.
+fn sized(column: &[u8; 16], value: &[u64; 3], buffer: &[u8]) -> Result<usize, Refusal>
+    ensures { answer_told result ≡ wrote (value_given column.now value.now buffer.now) }
+{
+    packed_value::judge_value(value)?;
+    let c = table::column_at(column, 0);
+    let v = three::value_at(value, 0);
+    value_write::value_size(c, v, buffer)
+}
 
 // How many bytes the value takes under the column.
 pub fn value_size(column: &[u8; 16], value: &[u64; 3], buffer: &[u8]) -> Counted
     ensures { result ≡ counted (wrote (value_given column.now value.now buffer.now)) }
 {
-    let judged = packed_value::judge_value(value);
-    match judged {
-        Ok(()) => {
-            let c = table::column_at(column, 0);
-            let v = three::value_at(value, 0);
-            board_answer::answer(value_write::value_size(c, v, buffer))
-        }
-        Err(e) => board_answer::refused(e),
-    }
+    board_answer::answer(sized(column, value, buffer))
+}
+
+// How many bytes were written at the front of the room, or why none were.
+fn written(
+    column: &[u8; 16],
+    value: &[u64; 3],
+    buffer: &[u8],
+    out: &mut [u8],
+) -> Result<usize, Refusal>
+    ensures answer { answer_told result ≡ wrote (fitted (value_given column.now value.now buffer.now) (length out.old)) }
+    ensures room { out.new ≡ room_after (fitted (value_given column.now value.now buffer.now) (length out.old)) out.old }
+{
+    packed_value::judge_value(value)?;
+    let c = table::column_at(column, 0);
+    let v = three::value_at(value, 0);
+    value_write::write_value(c, v, buffer, out)
 }
 
 // The value under the column, at the front of the room.
@@ -33,15 +52,7 @@ pub fn value_write(column: &[u8; 16], value: &[u64; 3], buffer: &[u8], out: &mut
     ensures answer { result ≡ counted (wrote (fitted (value_given column.now value.now buffer.now) (length out.old))) }
     ensures room { out.new ≡ room_after (fitted (value_given column.now value.now buffer.now) (length out.old)) out.old }
 {
-    let judged = packed_value::judge_value(value);
-    match judged {
-        Ok(()) => {
-            let c = table::column_at(column, 0);
-            let v = three::value_at(value, 0);
-            board_answer::answer(value_write::write_value(c, v, buffer, out))
-        }
-        Err(e) => board_answer::refused(e),
-    }
+    board_answer::answer(written(column, value, buffer, out))
 }
 
 // The value at a place of the row; PLP content is joined at the front of the room.

@@ -2,62 +2,27 @@
 
 #![tactic(auto)]
 
-ghost use Rattle.std.specs.Prelude.{◌≡◌, eqb};
+ghost use Rattle.std.specs.Prelude.{◌≡◌};
 ghost use Rattle.plp.specs.Told.{total_told, walk_told};
 ghost use Rattle.board_answer.specs.Told.{counted, place, after};
-ghost use Rattle.board_walk.specs.Plain.{flag, known_number, total_number, walk_numbers, total_given, walk_at, walk_given, walk_step, heads, walk_after};
+ghost use Rattle.board_walk.specs.Plain.{walk_numbers, total_given, walk_at, walk_given, walk_step, heads, walk_after};
 ghost use Rattle.board_walk.specs.Told.{given_told};
 
 use board_answer::Counted;
 use plp::{Opened, Walk};
 use wire::Cursor;
 
-// The number of a flag.
-fn number(b: bool) -> u64
-    ensures { result ≡ flag b }
-{
-    if b { 1 } else { 0 }
-}
-
-// Is a flag set?
-fn is_set(n: u64) -> bool
-    ensures { result ≡ eqb n 1 }
-{
-    n == 1
-}
-
-// Is the total known?
-fn is_known(total: Option<u64>) -> u64
-    ensures { result ≡ known_number (total_told total) }
-{
-    match total {
-        None => 0,
-        Some(_) => 1,
-    }
-}
-
-// The total, 0 where it is not known.
-fn total_number(total: Option<u64>) -> u64
-    ensures { result ≡ total_number (total_told total) }
-{
-    match total {
-        None => 0,
-        Some(n) => n,
-    }
-}
-
 // A walk's six numbers.
 fn numbers(w: Walk) -> [u64; 6]
     ensures { result ≡ walk_numbers (walk_told w) }
 {
-    let total = w.total;
     [
         w.at as u64,
         w.sum,
-        is_known(total),
-        total_number(total),
-        number(w.text),
-        number(w.ended),
+        u64::from(w.total.is_some()),
+        w.total.unwrap_or(0),
+        u64::from(w.text),
+        u64::from(w.ended),
     ]
 }
 
@@ -65,10 +30,7 @@ fn numbers(w: Walk) -> [u64; 6]
 fn total_of(known: u64, total: u64) -> Option<u64>
     ensures { total_told result ≡ total_given known total }
 {
-    if known == 1 {
-        return Some(total);
-    }
-    None
+    if known == 1 { Some(total) } else { None }
 }
 
 // The walk behind the eight bytes at a place of the bytes. A null's has ended.
@@ -79,9 +41,8 @@ pub fn walk_open(bytes: &[u8], at: usize, text: u8, walk: &mut [u64; 6]) -> Coun
     if 1 < text {
         return board_answer::unknown();
     }
-    let text = is_set(text as u64);
-    let opened = plp::open_walk(bytes, Cursor { at }, text);
-    match opened {
+    let text = text == 1;
+    match plp::open_walk(bytes, Cursor { at }, text) {
         Ok(Opened::Walk(w)) => {
             *walk = numbers(w);
             board_answer::at(w.at)
@@ -117,8 +78,8 @@ fn walk_given(at: u64, sum: u64, known: u64, total: u64, text: u64, ended: u64) 
         at: at as usize,
         sum,
         total: total_of(known, total),
-        text: is_set(text),
-        ended: is_set(ended),
+        text: text == 1,
+        ended: ended == 1,
     })
 }
 
@@ -127,12 +88,10 @@ pub fn walk_step(bytes: &[u8], allowed: u64, walk: &mut [u64; 6]) -> Counted
     ensures answer { result ≡ counted (heads (walk_step allowed bytes.now walk.old)) }
     ensures room { walk.new ≡ walk_after (walk_step allowed bytes.now walk.old) walk.old }
 {
-    let given = walk_given(walk[0], walk[1], walk[2], walk[3], walk[4], walk[5]);
-    let Some(w) = given else {
+    let Some(w) = walk_given(walk[0], walk[1], walk[2], walk[3], walk[4], walk[5]) else {
         return board_answer::unknown();
     };
-    let walked = plp::walk_chunks(bytes, w, allowed);
-    match walked {
+    match plp::walk_chunks(bytes, w, allowed) {
         Ok((x, taken)) => {
             *walk = numbers(x);
             board_answer::count(taken)

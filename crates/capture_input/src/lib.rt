@@ -67,24 +67,15 @@ fn read(faults: &impl Print, name: &[u8], input: &mut impl Read, s: &mut [u8]) -
 
 // Does the word begin as -h and --help do?
 fn is_help(word: &[u8]) -> bool {
-    if word.len() < 2 {
-        return false;
-    }
-    if word[0] != b'-' {
-        return false;
-    }
-    if word[1] == b'h' {
-        return true;
-    }
-    word[1] == b'-'
+    matches!(word, [b'-', b'h' | b'-', ..])
 }
 
 // The name of a file stands above it where there are several.
 fn say_name(rt: &impl Print, path: &[u8], several: bool) -> io::Result<()> {
     if several {
-        words::text(rt, b"== ")?;
-        words::text(rt, path)?;
-        words::text(rt, b"\n")?;
+        rt.write_all(b"== ")?;
+        rt.write_all(path)?;
+        rt.write_all(b"\n")?;
     }
     Ok(())
 }
@@ -143,10 +134,7 @@ pub fn inputs(rt: &impl Env) -> usize {
         }
         count = i;
     }
-    if count < 1 {
-        return 1;
-    }
-    count
+    count.max(1)
 }
 
 // The bytes of an input, from 0 on, at the front of the buffer: how many they are, none where there

@@ -42,22 +42,20 @@ fn put_name(out: &mut [u8], at: usize, n: Name, names: &[u8], w: usize) -> usize
     ensures room { out.new ≡ sets out.old at (name_bytes w (name_told names.now n)) }
     ensures next { result ≡ at + (w + 2 * n.units) }
 {
-    let start = n.start;
-    let units = n.units;
-    let end = start + 2 * units;
-    inner::put_low(out, at, units as u64, w);
-    inner::paste(names, start, end, out, at + w);
-    at + (w + 2 * units)
+    let end = n.start + 2 * n.units;
+    inner::put_low(out, at, n.units as u64, w);
+    inner::paste(names, n.start, end, out, at + w);
+    at + (w + 2 * n.units)
 }
 
 // The three names, one behind another.
-fn put_names(out: &mut [u8], at: usize, database: Name, owner: Name, collection: Name, names: &[u8])
-    requires { NameIn names.now database × NameIn names.now owner × NameIn names.now collection × (at + (4 + 2 * database.units + 2 * owner.units + 2 * collection.units) ≤ length out.old) }
-    ensures { out.new ≡ sets out.old at (name_bytes 1 (name_told names.now database) ++ (name_bytes 1 (name_told names.now owner) ++ name_bytes 2 (name_told names.now collection))) }
+fn put_names(out: &mut [u8], at: usize, three: Schema, names: &[u8])
+    requires { NameIn names.now three.database × NameIn names.now three.owner × NameIn names.now three.collection × (at + (4 + 2 * three.database.units + 2 * three.owner.units + 2 * three.collection.units) ≤ length out.old) }
+    ensures { out.new ≡ sets out.old at (name_bytes 1 (name_told names.now three.database) ++ (name_bytes 1 (name_told names.now three.owner) ++ name_bytes 2 (name_told names.now three.collection))) }
 {
-    let second = put_name(out, at, database, names, 1);
-    let third = put_name(out, second, owner, names, 1);
-    put_name(out, third, collection, names, 2);
+    let second = put_name(out, at, three.database, names, 1);
+    let third = put_name(out, second, three.owner, names, 1);
+    put_name(out, third, three.collection, names, 2);
 }
 
 // The marker, and the names where there are any.
@@ -67,14 +65,7 @@ fn put_marked(out: &mut [u8], at: usize, n: Option<Schema>, names: &[u8])
 {
     if let Some(three) = n {
         inner::put_byte(out, at, 1);
-        put_names(
-            out,
-            at + 1,
-            three.database,
-            three.owner,
-            three.collection,
-            names,
-        );
+        put_names(out, at + 1, three, names);
         return;
     }
     inner::put_byte(out, at, 0);
@@ -95,13 +86,10 @@ pub fn put_column(out: &mut [u8], c: Column, names: &[u8])
     requires { (names_fit (schema_told names.now c.schema) ≡ true) × (length (column_bytes (column_told names.now c)) ≤ length out.old) }
     ensures { out.new ≡ sets out.old 0 (column_bytes (column_told names.now c)) }
 {
-    let ty = c.ty;
-    let collation = c.collation;
-    let schema = c.schema;
-    let w = column_has::length_width(ty);
-    inner::put_byte(out, 0, column_byte::type_byte(ty));
+    let w = column_has::length_width(c.ty);
+    inner::put_byte(out, 0, u8::from(c.ty));
     inner::put_low(out, 1, c.length, w);
-    let second = put_digits(out, 1 + w, ty, c.precision, c.scale);
-    let third = put_collation(out, second, collation);
-    put_schema(out, third, ty, schema, names);
+    let second = put_digits(out, 1 + w, c.ty, c.precision, c.scale);
+    let third = put_collation(out, second, c.collation);
+    put_schema(out, third, c.ty, c.schema, names);
 }

@@ -5,7 +5,7 @@ use mathlib.Core.List.{List}
 use mathlib.Core.Bool.{false}
 use Prim.Native.Nat.{ℕ, ◌≤◌}
 use lib.ListN.{length}
-use Rattle.format.specs.Answer.{Answer, gives, refuses, unknown, not_carried, took, stops, then_read, read_at}
+use Rattle.format.specs.Answer.{Answer, gives, refuses, Refusal, not_carried, took, stops, then_read, read_at}
 use Rattle.format.specs.Number.{read_byte}
 use Rattle.format.specs.Descriptor.{TypeId, FixedLen, fixed_len, daten, xml, udt, ss_variant}
 use Rattle.format.specs.Descriptor.{Column, plain, daten_length, type_of, read_schema, read_fields, read_typed, read_type}
@@ -34,5 +34,5 @@ module _ (b : ℕ) (s : List ℕ) (at : ℕ) where
   pub known-type : (t : TypeId) → type_of b ≡ gives t → read_at (read_type b) s at ≡ read_at (read_fields t) s at
   known-type t q = ap (λ (x : Answer TypeId). read_at (read_typed x) s at) q
 
-  pub unknown-type : type_of b ≡ refuses unknown → at ≤ length s → read_at (read_type b) s at ≡ stops unknown
-  unknown-type q i = ap (λ (x : Answer TypeId). read_at (read_typed x) s at) q ∙ at_stops (read_typed (refuses unknown)) s at unknown i refl
+  pub unknown-type : (e : Refusal) → type_of b ≡ refuses e → at ≤ length s → read_at (read_type b) s at ≡ stops e
+  unknown-type e q i = ap (λ (x : Answer TypeId). read_at (read_typed x) s at) q ∙ at_stops (read_typed (refuses e)) s at e i refl

@@ -83,8 +83,7 @@ fn read_fields(s: &[u8], cursor: Cursor, t: TypeId) -> Result<(Column, Cursor), 
         TypeId::Long(_) => read_sized(s, cursor, t, Width::Four),
         TypeId::Daten => Ok((plain(t, column_has::DATEN_LENGTH), cursor)),
         TypeId::Xml => column_name::read_xml(s, cursor),
-        TypeId::Udt => Err(Refusal::NotCarried),
-        TypeId::SsVariant => Err(Refusal::NotCarried),
+        TypeId::Udt | TypeId::SsVariant => Err(Refusal::NotCarried),
     }
 }
 
@@ -93,10 +92,8 @@ fn read_type(s: &[u8], cursor: Cursor, b: u8) -> Result<(Column, Cursor), Refusa
     requires { cursor.at ≤ length s.now }
     ensures { (column_read_told s.now result ≡ read_at (read_type b) s.now cursor.at) × NamesFrom s.now (cursor.at + 2) result }
 {
-    match column_byte::type_of(b) {
-        Some(t) => read_fields(s, cursor, t),
-        None => Err(Refusal::Unknown),
-    }
+    let t = TypeId::try_from(b)?;
+    read_fields(s, cursor, t)
 }
 
 // The descriptor at the cursor. Names are spans of the whole input.

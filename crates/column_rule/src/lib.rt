@@ -2,52 +2,22 @@
 
 #![tactic(auto)]
 
-ghost use Rattle.std.specs.Prelude.{◌≡◌, List, ℕ, ◌^◌, ltb, eqb};
-ghost use Rattle.format.specs.Descriptor.{has_digits, has_collation, both, length_fits, digits_fit, collation_fits, schema_fits, keeps_rule, name_fits, names_fit};
+ghost use Rattle.std.specs.Prelude.{◌≡◌, List, ℕ, ◌^◌};
+ghost use Rattle.format.specs.Descriptor.{has_digits, has_collation, length_fits, digits_fit, collation_fits, schema_fits, keeps_rule, name_fits, names_fit};
 ghost use Rattle.column_type.specs.Told.{type_told, collation_told, name_told, schema_told, column_told};
 
 use column_type::{Collation, Column, Name, Schema, TypeId};
-
-// Do both tests hold?
-fn both(a: bool, b: bool) -> bool
-    ensures { result ≡ both a b }
-{
-    if a { b } else { false }
-}
-
-// Is a number below a limit?
-fn below(n: u64, limit: u64) -> bool
-    ensures { result ≡ ltb n limit }
-{
-    if n < limit {
-        return true;
-    }
-    false
-}
-
-// Are two numbers the same?
-fn same(n: u64, m: u64) -> bool
-    ensures { result ≡ eqb n m }
-{
-    if n == m {
-        return true;
-    }
-    false
-}
 
 // The length fits its field, or is what the type has without one.
 fn length_fits(t: TypeId, n: u64) -> bool
     ensures { result ≡ length_fits (type_told t) n }
 {
     match t {
-        TypeId::Fixed(_) => same(n, 0),
-        TypeId::Byte(_) => below(n, 256),
-        TypeId::UShort(_) => below(n, 65536),
-        TypeId::Long(_) => below(n, 4294967296),
-        TypeId::Daten => same(n, column_has::DATEN_LENGTH),
-        TypeId::Xml => same(n, 0),
-        TypeId::Udt => same(n, 0),
-        TypeId::SsVariant => same(n, 0),
+        TypeId::Byte(_) => n < 256,
+        TypeId::UShort(_) => n < 65536,
+        TypeId::Long(_) => n < 4294967296,
+        TypeId::Daten => n == column_has::DATEN_LENGTH,
+        TypeId::Fixed(_) | TypeId::Xml | TypeId::Udt | TypeId::SsVariant => n == 0,
     }
 }
 
@@ -55,45 +25,21 @@ fn length_fits(t: TypeId, n: u64) -> bool
 fn digits_fit(t: TypeId, precision: u8, scale: u8) -> bool
     ensures { result ≡ digits_fit (has_digits (type_told t)) precision scale }
 {
-    if column_has::has_digits(t) {
-        true
-    } else {
-        both(same(precision as u64, 0), same(scale as u64, 0))
-    }
+    column_has::has_digits(t) || (precision == 0 && scale == 0)
 }
 
-// The numbers of a collation fit their fields by their types.
-fn collation_numbers(info: u32, sort: u8) -> bool
-    ensures { result ≡ both (ltb info (256 ^ 4)) (ltb sort 256) }
-{
-    true
-}
-
-// A collation stands exactly where the type has one.
+// A collation stands exactly where the type has one. Its numbers fit their fields by their types.
 fn collation_fits(t: TypeId, c: Option<Collation>) -> bool
     ensures { result ≡ collation_fits (has_collation (type_told t)) (collation_told c) }
 {
-    if column_has::has_collation(t) {
-        match c {
-            None => false,
-            Some(Collation { info, sort }) => collation_numbers(info, sort),
-        }
-    } else {
-        match c {
-            None => true,
-            Some(_) => false,
-        }
-    }
+    column_has::has_collation(t) == c.is_some()
 }
 
 // A schema is Xml's alone.
 fn schema_fits(t: TypeId, n: Option<Schema>) -> bool
     ensures { (b : List ℕ) → result ≡ schema_fits (type_told t) (schema_told b n) }
 {
-    match n {
-        None => true,
-        Some(_) => column_has::is_xml(t),
-    }
+    column_has::is_xml(t) || n.is_none()
 }
 
 // Whether the descriptor keeps the rule, but for what is asked only when it is written itself; it
@@ -101,31 +47,17 @@ fn schema_fits(t: TypeId, n: Option<Schema>) -> bool
 pub fn keeps_rule(c: Column) -> bool
     ensures { (b : List ℕ) → result ≡ keeps_rule (column_told b c) }
 {
-    let ty = c.ty;
-    let collation = c.collation;
-    let schema = c.schema;
-    both(
-        length_fits(ty, c.length),
-        both(
-            digits_fit(ty, c.precision, c.scale),
-            both(collation_fits(ty, collation), schema_fits(ty, schema)),
-        ),
-    )
+    length_fits(c.ty, c.length)
+        && digits_fit(c.ty, c.precision, c.scale)
+        && collation_fits(c.ty, c.collation)
+        && schema_fits(c.ty, c.schema)
 }
 
 // Whether the span lies in the lent buffer and its count is below limit.
-fn name_fits(n: Name, names: &[u8], limit: u64) -> bool
+fn name_fits(n: Name, names: &[u8], limit: usize) -> bool
     ensures { (w : ℕ) → limit ≡ 256 ^ w → result ≡ name_fits w (name_told names.now n) }
 {
-    let start = n.start;
-    let units = n.units;
-    if names.len() < start {
-        return false;
-    }
-    if (names.len() - start) / 2 < units {
-        return false;
-    }
-    below(units as u64, limit)
+    n.start <= names.len() && n.units <= (names.len() - n.start) / 2 && n.units < limit
 }
 
 // What is asked besides when the descriptor itself is written.
@@ -134,12 +66,10 @@ pub fn names_fit(n: Option<Schema>, names: &[u8]) -> bool
 {
     match n {
         None => true,
-        Some(three) => both(
-            name_fits(three.database, names, 256),
-            both(
-                name_fits(three.owner, names, 256),
-                name_fits(three.collection, names, 65536),
-            ),
-        ),
+        Some(three) => {
+            name_fits(three.database, names, 256)
+                && name_fits(three.owner, names, 256)
+                && name_fits(three.collection, names, 65536)
+        }
     }
 }

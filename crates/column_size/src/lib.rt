@@ -22,10 +22,7 @@ fn digits_size(t: TypeId) -> usize
 fn collation_size(c: Option<Collation>) -> usize
     ensures { (result ≡ length (collation_bytes (collation_told c))) × (result ≤ 5) }
 {
-    match c {
-        None => 0,
-        Some(_) => 5,
-    }
+    if c.is_some() { 5 } else { 0 }
 }
 
 // A marker, and the three names where there are any. The buffer is there for the contract alone. The
@@ -60,32 +57,24 @@ fn size_of(c: Column, names: &[u8]) -> usize
     requires { names_fit (schema_told names.now c.schema) ≡ true }
     ensures { result ≡ length (column_bytes (column_told names.now c)) }
 {
-    let ty = c.ty;
-    let collation = c.collation;
-    let schema = c.schema;
-    1 + column_has::length_width(ty)
-        + digits_size(ty)
-        + collation_size(collation)
-        + schema_size(ty, schema, names)
+    1 + column_has::length_width(c.ty)
+        + digits_size(c.ty)
+        + collation_size(c.collation)
+        + schema_size(c.ty, c.schema, names)
 }
 
 // How many bytes the descriptor takes, or why it is not written.
 pub fn column_size(c: Column, names: &[u8]) -> Result<usize, Refusal>
     ensures { answer_told result ≡ wrote (write_column (column_told names.now c)) }
 {
-    let ty = c.ty;
-    let schema = c.schema;
-    if column_rule::keeps_rule(c) {
-        if column_rule::names_fit(schema, names) {
-            if column_has::is_described(ty) {
-                Ok(size_of(c, names))
-            } else {
-                Err(Refusal::NotCarried)
-            }
-        } else {
-            Err(Refusal::Rule)
-        }
-    } else {
-        Err(Refusal::Rule)
+    if !column_rule::keeps_rule(c) {
+        return Err(Refusal::Rule);
     }
+    if !column_rule::names_fit(c.schema, names) {
+        return Err(Refusal::Rule);
+    }
+    if !column_has::is_described(c.ty) {
+        return Err(Refusal::NotCarried);
+    }
+    Ok(size_of(c, names))
 }

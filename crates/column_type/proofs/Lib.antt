@@ -1,4 +1,3 @@
-pub mod TypeLaws
 pub mod ReadLaws
 pub mod RuleLaws
 pub mod WriteLaws

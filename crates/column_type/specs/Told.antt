@@ -73,28 +73,9 @@ type_told T.Xml = D.xml
 type_told T.Udt = D.udt
 type_told T.SsVariant = D.ss_variant
 
-abbrev pub type_read_told : Option TypeId → Answer D.TypeId
-type_read_told (Some t) = gives (type_told t)
-type_read_told None = refuses unknown
-
--- the three runs of `types` that the code asks one after another
-abbrev pub fixed_types : List D.TypeId
-fixed_types =
-    D.fixed_len D.FixedLen.null ∷ D.fixed_len D.FixedLen.int1 ∷ D.fixed_len D.FixedLen.bit ∷ D.fixed_len D.FixedLen.int2 ∷ D.fixed_len D.FixedLen.int4 ∷
-    D.fixed_len D.FixedLen.datetime4 ∷ D.fixed_len D.FixedLen.float4 ∷ D.fixed_len D.FixedLen.money ∷ D.fixed_len D.FixedLen.datetime ∷ D.fixed_len
-    D.FixedLen.float8 ∷ D.fixed_len D.FixedLen.money4 ∷ D.fixed_len D.FixedLen.int8 ∷ []
-
-abbrev pub byte_len_types : List D.TypeId
-byte_len_types =
-    D.byte_len D.ByteLen.guid ∷ D.byte_len D.ByteLen.intn ∷ D.byte_len D.ByteLen.bitn ∷ D.byte_len D.ByteLen.decimaln ∷ D.byte_len D.ByteLen.numericn ∷
-    D.byte_len D.ByteLen.floatn ∷ D.byte_len D.ByteLen.moneyn ∷ D.byte_len D.ByteLen.datetimen ∷ D.byte_len D.ByteLen.timen ∷ D.byte_len
-    D.ByteLen.datetime2 ∷ D.byte_len D.ByteLen.datetime_offsetn ∷ []
-
-abbrev pub other_types : List D.TypeId
-other_types =
-    D.u_short_len D.UShortLen.big_var_bin ∷ D.u_short_len D.UShortLen.big_var_char ∷ D.u_short_len D.UShortLen.big_binary ∷ D.u_short_len D.UShortLen.big_char ∷
-    D.u_short_len D.UShortLen.n_varchar ∷ D.u_short_len D.UShortLen.n_char ∷ D.long_len D.LongLen.image ∷ D.long_len D.LongLen.text ∷ D.long_len
-    D.LongLen.n_text ∷ D.daten ∷ D.xml ∷ D.udt ∷ D.ss_variant ∷ []
+abbrev pub type_read_told : Result TypeId Refusal → Answer D.TypeId
+type_read_told (Ok t) = gives (type_told t)
+type_read_told (Err e) = refuses (refusal_told e)
 
 -- the one type with a schema
 abbrev pub is_xml : D.TypeId → Bool

@@ -1,6 +1,9 @@
-// TYPE_INFO, a column's descriptor: the types, by the form of their descriptor, and the record.
+// TYPE_INFO, a column's descriptor: the types, by the form of their descriptor and with their type
+// bytes, and the record.
 
 #![tactic(auto)]
+
+mod byte;
 
 ghost use Rattle.std.specs.Prelude.{◌≡◌};
 ghost use Rattle.column_type.specs.Told.{plain_column};
@@ -8,59 +11,59 @@ ghost use Rattle.column_type.specs.Told.{plain_column};
 use wire::{Cursor, Refusal};
 
 // FIXEDLENTYPE: no length in the descriptor.
-#[derive(Clone, Copy)]
+#[derive(Clone, Copy, Debug, PartialEq, Eq)]
 pub enum FixedLen {
-    Null,
-    Int1,
-    Bit,
-    Int2,
-    Int4,
-    Datetime4,
-    Float4,
-    Money,
-    Datetime,
-    Float8,
-    Money4,
-    Int8,
+    Null = 0x1F,
+    Int1 = 0x30,
+    Bit = 0x32,
+    Int2 = 0x34,
+    Int4 = 0x38,
+    Datetime4 = 0x3A,
+    Float4 = 0x3B,
+    Money = 0x3C,
+    Datetime = 0x3D,
+    Float8 = 0x3E,
+    Money4 = 0x7A,
+    Int8 = 0x7F,
 }
 
 // BYTELEN_TYPE: one length byte.
-#[derive(Clone, Copy)]
+#[derive(Clone, Copy, Debug, PartialEq, Eq)]
 pub enum ByteLen {
-    Guid,
-    Intn,
-    Bitn,
-    Decimaln,
-    Numericn,
-    Floatn,
-    Moneyn,
-    Datetimen,
-    Timen,
-    Datetime2,
-    DatetimeOffsetn,
+    Guid = 0x24,
+    Intn = 0x26,
+    Bitn = 0x68,
+    Decimaln = 0x6A,
+    Numericn = 0x6C,
+    Floatn = 0x6D,
+    Moneyn = 0x6E,
+    Datetimen = 0x6F,
+    Timen = 0x29,
+    Datetime2 = 0x2A,
+    DatetimeOffsetn = 0x2B,
 }
 
 // USHORTLEN_TYPE: two length bytes.
-#[derive(Clone, Copy)]
+#[derive(Clone, Copy, Debug, PartialEq, Eq)]
 pub enum UShortLen {
-    BigVarBin,
-    BigVarChar,
-    BigBinary,
-    BigChar,
-    NVarchar,
-    NChar,
+    BigVarBin = 0xA5,
+    BigVarChar = 0xA7,
+    BigBinary = 0xAD,
+    BigChar = 0xAF,
+    NVarchar = 0xE7,
+    NChar = 0xEF,
 }
 
 // LONGLEN_TYPE: four length bytes.
-#[derive(Clone, Copy)]
+#[derive(Clone, Copy, Debug, PartialEq, Eq)]
 pub enum LongLen {
-    Image,
-    Text,
-    NText,
+    Image = 0x22,
+    Text = 0x23,
+    NText = 0x63,
 }
 
 // The types, by the form of their descriptor.
-#[derive(Clone, Copy)]
+#[derive(Clone, Copy, Debug, PartialEq, Eq)]
 pub enum TypeId {
     Fixed(FixedLen),
     Byte(ByteLen),

@@ -1,5 +1,4 @@
-// Lent lists of records, taken apart one record at a time.
+// No code: specs/ says what lent lists of columns and of values tell, proofs/Taken.antt how such a list
+// is taken apart from the left.
 
 #![tactic(auto)]
-
-pub mod inner;

@@ -8,8 +8,8 @@ ghost use Rattle.wire.specs.Told.{answer_told};
 ghost use Rattle.value_kind.specs.Told.{content_kind_told, family_told, span_told};
 ghost use Rattle.value_kind.specs.Form.{given_of, encoded, encoded_part, formed, framed};
 
+use value_kind::Span;
 use value_kind::family::{ContentKind, Family};
-use value_kind::{Span, family};
 use wire::{Refusal, marks};
 
 // The content bytes: binary as it is, a string in UTF-16LE.
@@ -69,10 +69,7 @@ pub fn framed_span(
 pub fn is_plp(declared: u32) -> bool
     ensures { result ≡ eqb declared plp_mark }
 {
-    if declared == marks::PLP_MARK {
-        return true;
-    }
-    false
+    declared == marks::PLP_MARK
 }
 
 // The bound of content under a declared length.
@@ -96,13 +93,12 @@ pub fn content(
     ensures { answer_told result ≡ wrote (write_family declared (family_told f) (given_of (content_kind_told k) (span_told buffer.now p))) }
 {
     match f {
-        Family::Fixed(_) => Err(Refusal::Kind),
-        Family::LengthByte(_) => Err(Refusal::Kind),
+        Family::Fixed(_) | Family::LengthByte(_) => Err(Refusal::Kind),
         Family::Content(wanted) => {
-            if family::same_content(wanted, k) {
-                return framed_span(k, p, buffer, 0, is_plp(declared), content_bound(declared));
+            if wanted != k {
+                return Err(Refusal::Kind);
             }
-            Err(Refusal::Kind)
+            framed_span(k, p, buffer, 0, is_plp(declared), content_bound(declared))
         }
         Family::NotCarried => Err(Refusal::NotCarried),
     }

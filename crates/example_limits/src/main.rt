@@ -18,8 +18,7 @@ fn print(rt: &impl Print, found: Found) -> io::Result<()> {
 
 // Reads a row and takes its value.
 fn read_limit(rt: &impl Print, c: Column, row: &[u8]) -> io::Result<()> {
-    let Ok((first, _)) = morelquilt::read_held_row([c; 1024], 1, row, Cursor { at: 0 }, &mut [])
-    else {
+    let Ok((first, _)) = morelquilt::read_row(&[c], row, Cursor { at: 0 }, &mut []) else {
         return Ok(());
     };
     let Ok((limit, _)) = first.value(c, row) else {
@@ -49,7 +48,7 @@ fn there_and_back(rt: &impl Print, c: Column, limit: i32) -> io::Result<()> {
 fn form(c: Column, row: &[u8], room: &mut [u8]) -> usize
     ensures { result ≤ length room.old }
 {
-    match morelquilt::normal_held_row([c; 1024], 1, row, Cursor { at: 0 }, room) {
+    match morelquilt::normal_row(&[c], row, Cursor { at: 0 }, room) {
         Ok((n, _)) => n,
         Err(_) => 0,
     }

@@ -1,10 +1,8 @@
 -- What this crate's declared types tell, in the words of `format`.
 use Rattle.std.specs.Prelude.{Err, Ok, Result}
-use Rattle.std.specs.Prelude.{ℕ, List}
-use Rattle.lists.specs.Pick.{pick}
-use Rattle.format.specs.Answer.{Answer, gives, refuses, Read, took, stops, unknown}
+use Rattle.std.specs.Prelude.{ℕ}
+use Rattle.format.specs.Answer.{Answer, gives, refuses, Read, took, stops}
 use Rattle.format.specs.Header as H
-use Rattle.format.specs.Header.{listed}
 use Rattle.wire.specs.Told.{refusal_told}
 use Rattle.header.specs.declared.PacketType.{PacketType}
 use Rattle.header.specs.declared.PacketType.TheVariants as P
@@ -34,10 +32,6 @@ status_byte S.EndOfMessage = 1
 status_byte S.IgnoreEvent = 3
 status_byte S.ResetConnection = 8
 status_byte S.ResetConnectionSkipTran = 16
-
--- a number that is listed, or refusal 2
-unfoldable pub known : List ℕ → ℕ → Answer ℕ
-known list n = pick (listed list n) (gives n) (refuses unknown)
 
 abbrev pub type_told : Result PacketType Refusal → Answer ℕ
 type_told (Ok t) = gives (type_byte t)

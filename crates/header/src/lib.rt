@@ -59,13 +59,14 @@ impl From<PacketType> for u8 {
 
 // The packet type whose byte it is.
 impl TryFrom<u8> for PacketType {
-    ghost use Rattle.header.specs.Told.{known, type_told};
+    ghost use Rattle.wire.specs.Told.{known};
+    ghost use Rattle.header.specs.Told.{type_told};
 
     type Error = Refusal;
 
     ghost try_from_gives = { λ b r. type_told r ≡ known packet_types b };
 
-    #[tactic(auto, unfolding(crate::specs::Told::known))]
+    #[tactic(auto, unfolding(wire::specs::Told::known))]
     fn try_from(b: u8) -> Result<PacketType, Refusal> {
         match b {
             1 => Ok(PacketType::SqlBatch),
@@ -97,13 +98,14 @@ impl From<PacketStatus> for u8 {
 
 // The packet status whose byte it is.
 impl TryFrom<u8> for PacketStatus {
-    ghost use Rattle.header.specs.Told.{known, status_told};
+    ghost use Rattle.wire.specs.Told.{known};
+    ghost use Rattle.header.specs.Told.{status_told};
 
     type Error = Refusal;
 
     ghost try_from_gives = { λ b r. status_told r ≡ known packet_statuses b };
 
-    #[tactic(auto, unfolding(crate::specs::Told::known))]
+    #[tactic(auto, unfolding(wire::specs::Told::known))]
     fn try_from(b: u8) -> Result<PacketStatus, Refusal> {
         match b {
             0 => Ok(PacketStatus::Normal),
@@ -160,10 +162,8 @@ pub fn write_header(h: Header, out: &mut [u8]) -> Result<usize, Refusal>
     if out.len() < 8 {
         return Err(Refusal::Room);
     }
-    let ty = h.ty;
-    let status = h.status;
-    out[0] = u8::from(ty);
-    out[1] = u8::from(status);
+    out[0] = u8::from(h.ty);
+    out[1] = u8::from(h.status);
     wire::inner::put_high(out, 2, h.length as u64, 2);
     wire::inner::put_high(out, 4, h.spid as u64, 2);
     out[6] = h.id;

@@ -1,26 +1,22 @@
--- Counts that an array of 1,024 places has, and counts above them: what `counted` makes of each.
--- Assumes nothing.
-use mathlib.Core.Bool.{true, false}
+-- Counts above the places of the arrays: the row is refused as its counts are. Assumes nothing.
+use mathlib.Core.Bool.{Bool, true, false}
 use mathlib.Core.List.{List}
-use mathlib.Core.Path.{◌≡◌}
-use Prim.Native.Nat.{ℕ, ◌≤◌}
-use borrow.Author.Tests.{ltb-false}
-use Rattle.format.specs.Answer.{Answer, refuses, rule, wrote}
+use mathlib.Core.Path.{◌≡◌, refl}
+use Prim.Native.Nat.{ℕ}
+use Rattle.lists.proofs.Split.{clash}
+use Rattle.format.specs.Answer.{Answer, Refusal, gives, refuses, rule, wrote}
 use Rattle.held.specs.Held.{too_many, counted}
 
--- as many records as the count says
-pub few : (count : ℕ) → too_many count ≡ false → count ≤ 1024
-few count h = ltb-false 1024 count h
-
-pub both_few : {A : Type 0} (count given : ℕ) (a : Answer A) → too_many count ≡ false → too_many given ≡ false → counted count (counted given a) ≡ a
-both_few count given a h k = rw (h, k)
-
--- more columns, or more values, than there are places
-pub many_columns : (count : ℕ) (a : Answer (List ℕ)) → too_many count ≡ true → refuses rule ≡ wrote (counted count a)
+pub many : (count given : ℕ) (x : Refusal) (a : Answer (List ℕ))
+    → ◌≡◌ {A = Answer (Unit {0})} (refuses x) (counted count (counted given (gives tt))) → refuses x ≡ wrote (counted count (counted given a))
 unfolding wrote
-many_columns count a h = rw h
-
-pub many_values : (count given : ℕ) (a : Answer (List ℕ)) → too_many count ≡ false → too_many given ≡ true
-    → refuses rule ≡ wrote (counted count (counted given a))
-unfolding wrote
-many_values count given a h k = rw (h, k)
+many count given x a h = go (too_many count) refl (too_many given) refl
+  where
+    go : (b : Bool) → too_many count ≡ b → (d : Bool) → too_many given ≡ d → refuses x ≡ wrote (counted count (counted given a))
+    go true e d f =
+        let r : x ≡ rule = cc (rw e at h) in
+        rw (e, r)
+    go false e true f =
+        let r : x ≡ rule = cc (rw (e, f) at h) in
+        rw (e, f, r)
+    go false e false f = clash (cc (rw (e, f) at h))

@@ -4,16 +4,25 @@
 
 #![tactic(auto)]
 
-ghost use Rattle.std.specs.Prelude.{◌≡◌, length};
-ghost use Rattle.format.specs.Answer.{fitted, wrote, room_after};
+ghost use Rattle.std.specs.Prelude.{◌≡◌, ◌≤◌, length, IfOk};
+ghost use Rattle.format.specs.Answer.{gives, fitted, wrote, room_after};
 ghost use Rattle.wire.specs.Told.{answer_told};
-ghost use Rattle.held.specs.Held.{write_held};
+ghost use Rattle.held.specs.Held.{counted, write_held};
 
 use column_type::Column;
 use value_kind::Value;
 use wire::Refusal;
 
-pub mod inner;
+// Whether the arrays have so many columns and so many values.
+fn counts(count: usize, given: usize) -> Result<(), Refusal>
+    ensures fits { IfOk result (λ u. (count ≤ 1024) × (given ≤ 1024)) }
+    ensures told { answer_told result ≡ counted count (counted given (gives tt)) }
+{
+    if 1024 < count || 1024 < given {
+        return Err(Refusal::Rule);
+    }
+    Ok(())
+}
 
 // How many bytes the row takes, or why it cannot be written.
 pub fn held_row_size(
@@ -25,13 +34,8 @@ pub fn held_row_size(
 ) -> Result<usize, Refusal>
     ensures { answer_told result ≡ wrote (write_held buffer.now cols count values given) }
 {
-    if inner::too_many(count) {
-        return Err(Refusal::Rule);
-    }
-    if inner::too_many(given) {
-        return Err(Refusal::Rule);
-    }
-    inner::size_lent(cols, count, values, given, buffer)
+    counts(count, given)?;
+    row_size::row_size(&cols[..count], &values[..given], buffer)
 }
 
 // The row, at the front of the room.
@@ -46,11 +50,6 @@ pub fn write_held_row(
     ensures answer { answer_told result ≡ wrote (fitted (write_held buffer.now cols count values given) (length out.old)) }
     ensures room { out.new ≡ room_after (fitted (write_held buffer.now cols count values given) (length out.old)) out.old }
 {
-    if inner::too_many(count) {
-        return Err(Refusal::Rule);
-    }
-    if inner::too_many(given) {
-        return Err(Refusal::Rule);
-    }
-    inner::write_lent(cols, count, values, given, buffer, out)
+    counts(count, given)?;
+    row_write::write_row(&cols[..count], &values[..given], buffer, out)
 }

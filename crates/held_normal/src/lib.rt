@@ -13,8 +13,6 @@ use column_type::Column;
 use cursor::Cursor;
 use wire::Refusal;
 
-mod inner;
-
 // The normal form of the row at the cursor: how many bytes it has, and where the row ends.
 pub fn normal_held_row(
     cols: [Column; 1024],
@@ -26,9 +24,10 @@ pub fn normal_held_row(
     ensures answer { (b : List ℕ) → normal_told result ≡ map_read length (fitted_read (λ (bytes : List ℕ). bytes) (read_at (counted_read count (normal (first_columns b cols count))) s.now cursor.at) (length out.old)) }
     ensures room { (b : List ℕ) → out.new ≡ room_after_read (λ (bytes : List ℕ). bytes) (fitted_read (λ (bytes : List ℕ). bytes) (read_at (counted_read count (normal (first_columns b cols count))) s.now cursor.at) (length out.old)) out.old }
 {
-    if held::inner::too_many(count) {
-        let judged = judge_step::inner::start(count, s.len(), cursor);
-        return normal_step::inner::fit_in(judged, out.len());
+    // More than the array has places for: refused, a place behind the input's end first.
+    if 1024 < count {
+        let needs = judge_step::inner::start(count, s.len(), cursor)?;
+        return Ok((needs.normal, needs.next));
     }
-    inner::normal_lent(cols, count, s, cursor, out)
+    row_normal::normal_row(&cols[..count], s, cursor, out)
 }

@@ -16,8 +16,6 @@ use judge_step::RowNeeds;
 use row_place::RowPlace;
 use wire::Refusal;
 
-mod inner;
-
 // What the row at the cursor needs, or why it cannot be read.
 pub fn judge_held_row(
     cols: [Column; 1024],
@@ -27,10 +25,11 @@ pub fn judge_held_row(
 ) -> Result<RowNeeds, Refusal>
     ensures { (b : List ℕ) → row_judged_told result ≡ map_read (needs_of (first_columns b cols count)) (read_at (counted_read count (read_row (first_columns b cols count))) s.now cursor.at) }
 {
-    if held::inner::too_many(count) {
+    // More than the array has places for: refused, a place behind the input's end first.
+    if 1024 < count {
         return judge_step::inner::start(count, s.len(), cursor);
     }
-    inner::judge_lent(cols, count, s, cursor)
+    row_judge::judge_row(&cols[..count], s, cursor)
 }
 
 // The row at the cursor: its first value's place, from which `RowPlace::value` takes the values in
@@ -45,9 +44,10 @@ pub fn read_held_row(
     ensures told { (b : List ℕ) → row_read_told result ≡ map_read (λ vs. first_place cursor.at) (fitted_read (copied_out_row (first_columns b cols count)) (read_at (counted_read count (read_row (first_columns b cols count))) s.now cursor.at) (length out.old)) }
     ensures room { (b : List ℕ) → out.new ≡ room_after_read (copied_out_row (first_columns b cols count)) (fitted_read (copied_out_row (first_columns b cols count)) (read_at (counted_read count (read_row (first_columns b cols count))) s.now cursor.at) (length out.old)) out.old }
 {
-    if held::inner::too_many(count) {
-        let judged = judge_step::inner::start(count, s.len(), cursor);
-        return read_step::inner::answer(judged, cursor);
+    // As above.
+    if 1024 < count {
+        let needs = judge_step::inner::start(count, s.len(), cursor)?;
+        return Ok((read_step::inner::first(cursor), needs.next));
     }
-    inner::read_lent(cols, count, s, cursor, out)
+    row_read::read_row(&cols[..count], s, cursor, out)
 }

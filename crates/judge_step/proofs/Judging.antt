@@ -1,12 +1,13 @@
 -- Judging a row, turn by turn: what is left of the columns, read from where the row so far ends, needs behind what the row needs so far what the whole row
 -- needs.
--- Why it holds: `read_values` takes a column from the left at each turn as the pass does, and the second reader goes on at the first one's next place; a
--- refused row stays refused. The place and the number of columns were judged before the first turn.
+-- Why it holds: `read_values` takes a column from the left at each turn as the pass does, and the second reader goes on at the first one's next place; both
+-- end at the first refusal. The place and the number of columns were judged before the first turn.
 -- Assumes nothing.
+use Rattle.std.specs.Prelude.{Err, Ok, IfOk, Result}
 use mathlib.Core.Path.{◌≡◌, refl, sym, ap, ◌∙◌}
 use mathlib.Core.Bool.{Bool, true, false}
 use mathlib.Core.List.{List, [], ◌∷◌}
-use Prim.Native.Nat.{ℕ, ◌+◌, ◌<◌, ◌≤◌, zero-le}
+use Prim.Native.Nat.{ℕ, ◌+◌, ◌<◌, ◌≤◌}
 use native.Mathlib.Omega.{arith}
 use native.Mathlib.Nat.{add-zero, zero-add, add_assoc}
 use lib.ListN.{length, get_or, drop, length-map, length-append}
@@ -26,8 +27,11 @@ use Rattle.columns.specs.None.{no_column}
 use Rattle.columns.specs.Told.{columns_told}
 use Rattle.columns.proofs.Taken.{left_at, none_left}
 use Rattle.value_weigh.specs.Told.{Needs, needs_value}
-use Rattle.judge_step.specs.Told.{needs_of}
-use Rattle.judge_step.specs.Steps.{no_needs, start_of, turns_of, plus_needs, judge_on, Inside}
+use Rattle.judge_step.specs.Told.{needs_of, needs_told, row_judged_told}
+use Rattle.judge_step.specs.Steps.{no_needs, start_of, plus_needs, judge_on, Inside}
+use Rattle.judge_step.specs.declared.RowNeeds.{RowNeeds}
+use Rattle.wire.specs.declared.Refusal as E
+use Rattle.wire.specs.Told.{refusal_told}
 
 -- ---- what is left of a row behind what it needs so far
 
@@ -74,17 +78,15 @@ module _ (d : D.Column) (ds : List D.Column) (s : List ℕ) where
       ap (map_read (λ (ws : List Value). plus_needs n (needs_of (d ∷ ds) ws))) (at_then_stops (read_value d) (cons_read (read_values ds)) s at r e)
 
   -- one column more
-  left_more : (x : Read Needs) → judge_left (d ∷ ds) s x ≡ judge_left ds s (judge_on d s x)
-  left_more (took n at) = first n at (read_at (read_value d) s at) refl
-  left_more (stops e) = refl
+  left_more : (n : Needs) (at : ℕ) → judge_left (d ∷ ds) s (took n at) ≡ judge_left ds s (judge_on d s n at)
+  left_more n at = first n at (read_at (read_value d) s at) refl
 
 -- none is left
-left_none : (s : List ℕ) (x : Read Needs) → Inside (length s) x → judge_left [] s x ≡ x
+left_none : (s : List ℕ) (n : Needs) (at : ℕ) → at ≤ length s → judge_left [] s (took n at) ≡ took n at
 unfolding read_values copied_out_row encode_row
-left_none s (took n at) i =
-    ap (map_read (λ vs. plus_needs n (needs_of [] vs))) (at_took (read_values []) s at [] 0 i.0 refl)
+left_none s n at i =
+    ap (map_read (λ vs. plus_needs n (needs_of [] vs))) (at_took (read_values []) s at [] 0 i refl)
     ∙ rw (add-zero at, zero_plus n)
-left_none s (stops e) i = refl
 
 -- the whole row, from its place on
 left_all : (cs : List D.Column) (s : List ℕ) (at : ℕ) → judge_left cs s (took no_needs at) ≡ map_read (needs_of cs) (read_at (read_values cs) s at)
@@ -149,54 +151,56 @@ module _ (ys : List Column) (s : List ℕ) (at : ℕ) where
           (at_stops (read_row (columns_told b ys)) s at rule (ltb-false (length s) at p) (row-refused b (drop at s) q)) ∙ ap stops z
       go false p false q = clash (cc (rw (p, q) at h))
 
-  -- what is known at a turn, by what was found of the place and the count
-  abbrev pub Judged : Read Needs → ℕ → Read Needs → Type 0
-  Judged (took m k) i x = ((b : List ℕ) → judge_left (left b i) s x ≡ answer b) × Inside (length s) x
-  Judged (stops e) i x = x ≡ stops e
+  -- what is known at a turn
+  abbrev pub Judged : ℕ → RowNeeds → Type 0
+  Judged i r = ((b : List ℕ) → judge_left (left b i) s (took (needs_told r) r.next.at) ≡ answer b) × Inside (length s) r
 
-  pub judging_begins : (a : Read Needs) → start ≡ a → Judged a 0 a
-  judging_begins (took m k) h =
-      let c = begun m k h in (
-        λ b. rw (← c.2, ← c.3) (left_all (columns_told b ys) s at ∙ ap (map_read (needs_of (columns_told b ys))) (sym (row_at b c.0 c.1))),
-        rw (← c.2, ← c.3) (c.0, zero-le, zero-le),
+  -- and where a value was judged, or refused
+  abbrev pub JudgedOn : ℕ → Result RowNeeds E.Refusal → Type 0
+  JudgedOn i (Ok r) = Judged i r
+  JudgedOn i (Err e) = (b : List ℕ) → stops (refusal_told e) ≡ answer b
+
+  pub judging_begins : (r : RowNeeds) → row_judged_told (Ok r) ≡ start → Judged 0 r
+  judging_begins r h =
+      let c = begun (needs_told r) r.next.at (sym h) in
+      let j : 0 ≡ r.joined = ap (λ (m : Needs). m.joined) c.2 in
+      let k : 0 ≡ r.normal = ap (λ (m : Needs). m.normal) c.2 in
+      let t : took (needs_told r) r.next.at ≡ took no_needs at = ap (λ (m : Needs). took m r.next.at) (sym c.2) ∙ ap (took no_needs) (sym c.3) in (
+        λ b.
+            ap (judge_left (left b 0) s) t
+            ∙ (left_all (columns_told b ys) s at ∙ ap (map_read (needs_of (columns_told b ys))) (sym (row_at b c.0 c.1))),
+        (omega (arith, c.3, c.0), omega (arith, j), omega (arith, k)),
       )
-  judging_begins (stops e) h = refl
-
-  -- a turn has a column
-  pub inside : (a : Read Needs) (i : ℕ) → i < turns_of a n → i < n
-  inside (took m k) i l = l
-  inside (stops e) i l = absurd (omega (arith, l))
-
-  -- there are no more turns than columns
-  pub turns_most : (a : Read Needs) → turns_of a n ≤ n
-  turns_most (took m k) = omega arith
-  turns_most (stops e) = omega arith
-
-  pub judging_asks : (a : Read Needs) (i : ℕ) (x : Read Needs) → i < turns_of a n → Judged a i x → Inside (length s) x
-  judging_asks (took m k) i x l z = z.1
-  judging_asks (stops e) i x l z = absurd (omega (arith, l))
 
   -- what a step answers
-  pub judging_next : (a : Read Needs) (i : ℕ) (x r : Read Needs) (c : Column) → i < turns_of a n → Judged a i x → c ≡ get_or ys i no_column →
-      ((b : List ℕ) → r ≡ judge_on (column_told b c) s x) × Inside (length s) r → Judged a (i + 1) r
-  judging_next (took m k) i x r c l z e q = (
-    λ b.
-        ap (judge_left (left b (i + 1)) s) (q.0 b)
-        ∙ (sym (left_more (column_told b c) (left b (i + 1)) s x)
-        ∙ (ap (λ (cs : List D.Column). judge_left cs s x) (more b)
-        ∙ z.0 b)),
-    q.1,
-  )
+  pub judging_next : (i : ℕ) (r : RowNeeds) (x : Result RowNeeds E.Refusal) (c : Column) → i < n → Judged i r → c ≡ get_or ys i no_column →
+      ((b : List ℕ) → row_judged_told x ≡ judge_on (column_told b c) s (needs_told r) r.next.at) → IfOk x (Inside (length s)) → JudgedOn (i + 1) x
+  judging_next i r x c l z e q w = go x told w
     where
       more : (b : List ℕ) → column_told b c ∷ left b (i + 1) ≡ left b i
       more b = rw (left_at no_column i ys l, e)
-  judging_next (stops e) i x r c l z f q = absurd (omega (arith, l))
+
+      told : (b : List ℕ) → judge_left (left b (i + 1)) s (row_judged_told x) ≡ answer b
+      told b =
+          ap (judge_left (left b (i + 1)) s) (q b)
+          ∙ (sym (left_more (column_told b c) (left b (i + 1)) s (needs_told r) r.next.at)
+          ∙ (ap (λ (cs : List D.Column). judge_left cs s (took (needs_told r) r.next.at)) (more b)
+          ∙ z.0 b))
+
+      go : (y : Result RowNeeds E.Refusal) → ((b : List ℕ) → judge_left (left b (i + 1)) s (row_judged_told y) ≡ answer b) → IfOk y (Inside (length s))
+          → JudgedOn (i + 1) y
+      go (Ok m) t v = (t, v)
+      go (Err d) t v = t
 
   -- behind the last turn
-  pub judging_ends : (a : Read Needs) (x : Read Needs) → start ≡ a → Judged a (turns_of a n) x → (b : List ℕ) → x ≡ answer b
-  judging_ends (took m k) x h z b =
-      sym (left_none s x z.1) ∙ (ap (λ (cs : List D.Column). judge_left cs s x) (sym (none_of b)) ∙ z.0 b)
+  pub judging_ends : (r : RowNeeds) → Judged n r → (b : List ℕ) → row_judged_told (Ok r) ≡ answer b
+  judging_ends r z b =
+      sym (left_none s (needs_told r) r.next.at z.1.0)
+      ∙ (ap (λ (cs : List D.Column). judge_left cs s (took (needs_told r) r.next.at)) (sym (none_of b)) ∙ z.0 b)
     where
       none_of : (b : List ℕ) → left b n ≡ []
       none_of b = rw (none_left ys)
-  judging_ends (stops e) x h z b = z ∙ sym (unbegun b e h)
+
+  -- a place or a count that was refused
+  pub start_refused : (e : E.Refusal) → stops (refusal_told e) ≡ start → (b : List ℕ) → stops (refusal_told e) ≡ answer b
+  start_refused e h b = sym (unbegun b (refusal_told e) (sym h))

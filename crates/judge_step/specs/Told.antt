@@ -15,6 +15,9 @@ use Rattle.wire.specs.declared.Refusal.{Refusal}
 abbrev pub needs_of : List D.Column → List Value → Needs
 needs_of cs vs = needs_for (copied_out_row cs vs) (encode_row cs vs)
 
+abbrev pub needs_told : RowNeeds → Needs
+needs_told n = record { joined = n.joined; normal = n.normal }
+
 abbrev pub row_judged_told : Result RowNeeds Refusal → Read Needs
-row_judged_told (Ok n) = took (record { joined = n.joined; normal = n.normal }) n.next.at
+row_judged_told (Ok n) = took (needs_told n) n.next.at
 row_judged_told (Err e) = stops (refusal_told e)

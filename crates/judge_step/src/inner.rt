@@ -1,16 +1,16 @@
 // The steps of judging a row, for the crates of this repository, each on one column by value.
-ghost use Rattle.std.specs.Prelude.{◌≡◌, List, ℕ, length};
+ghost use Rattle.std.specs.Prelude.{◌≡◌, List, ℕ, length, IfOk};
 ghost use Rattle.column_type.specs.Told.{column_told};
-ghost use Rattle.judge_step.specs.Told.{row_judged_told};
-ghost use Rattle.judge_step.specs.Steps.{start_of, turns_of, judge_on, Inside};
+ghost use Rattle.judge_step.specs.Told.{needs_told, row_judged_told};
+ghost use Rattle.judge_step.specs.Steps.{start_of, judge_on, Inside};
 
 use crate::RowNeeds;
 use column_type::Column;
 use cursor::Cursor;
-use value_kind::family;
+use value_kind::family::Family;
 use wire::Refusal;
 
-// The place, then the number of columns.
+// What a row needs before its first value, where the place and the number of columns are let through.
 pub fn start(columns: usize, size: usize, cursor: Cursor) -> Result<RowNeeds, Refusal>
     ensures { row_judged_told result ≡ start_of columns size cursor.at }
 {
@@ -27,29 +27,16 @@ pub fn start(columns: usize, size: usize, cursor: Cursor) -> Result<RowNeeds, Re
     })
 }
 
-// How many turns the row has: none where it was refused before them.
-pub fn turns(state: Result<RowNeeds, Refusal>, columns: usize) -> usize
-    ensures { result ≡ turns_of (row_judged_told state) columns }
-{
-    match state {
-        Ok(_) => columns,
-        Err(_) => 0,
-    }
-}
-
 // One value more, behind those before it.
-fn behind(c: Column, s: &[u8], row: RowNeeds) -> Result<RowNeeds, Refusal>
-    requires { Inside (length s.now) (row_judged_told (Ok row)) }
-    ensures { ((b : List ℕ) → row_judged_told result ≡ judge_on (column_told b c) s.now (row_judged_told (Ok row))) × Inside (length s.now) (row_judged_told result) }
+pub fn judge_on(c: Column, s: &[u8], row: RowNeeds) -> Result<RowNeeds, Refusal>
+    requires { Inside (length s.now) row }
+    ensures told { (b : List ℕ) → row_judged_told result ≡ judge_on (column_told b c) s.now (needs_told row) row.next.at }
+    ensures inside { IfOk result (Inside (length s.now)) }
 {
     let at = row.next.at;
     if column_rule::keeps_rule(c) {
         let ty = c.ty;
-        let (n, joined, normal) = value_weigh::weigh(
-            family::family_of(ty),
-            c.length as u32,
-            &s[at..],
-        )?;
+        let (n, joined, normal) = value_weigh::weigh(Family::from(ty), c.length as u32, &s[at..])?;
         return Ok(RowNeeds {
             next: Cursor { at: at + n },
             joined: row.joined + joined,
@@ -57,13 +44,4 @@ fn behind(c: Column, s: &[u8], row: RowNeeds) -> Result<RowNeeds, Refusal>
         });
     }
     Err(Refusal::Rule)
-}
-
-// One column's turn. A refused row stays refused.
-pub fn judge_on(c: Column, s: &[u8], state: Result<RowNeeds, Refusal>) -> Result<RowNeeds, Refusal>
-    requires { Inside (length s.now) (row_judged_told state) }
-    ensures { ((b : List ℕ) → row_judged_told result ≡ judge_on (column_told b c) s.now (row_judged_told state)) × Inside (length s.now) (row_judged_told result) }
-{
-    let row = state?;
-    behind(c, s, row)
 }

@@ -2,13 +2,14 @@
 -- Why it holds: the normal form is that of the values that were read, and the second reader goes on at the first one's next place.
 -- Assumes nothing.
 use mathlib.Core.Path.{◌≡◌, refl, sym, ap, ◌∙◌}
-use mathlib.Core.Bool.{Bool, true, false}
 use mathlib.Core.List.{List, [], ◌∷◌}
 use Prim.Native.Nat.{ℕ, ◌+◌, ◌<◌, ◌≤◌}
+use native.Mathlib.Omega.{arith}
 use lib.Dec.{ltb}
 use lib.ListN.{length, drop}
 use borrow.Author.Tests.{lt-ltb, le-ltb, ltb-false}
 use Rattle.lists.specs.Pick.{pick}
+use Rattle.lists.proofs.Split.{clash}
 use Rattle.format.specs.Answer.{Refusal, Read, took, stops, room, map_read, read_at, fitted_read}
 use Rattle.format.specs.Descriptor as D
 use Rattle.format.specs.Value.{Value, read_value, encode}
@@ -21,17 +22,8 @@ use Rattle.column_type.specs.declared.Column.{Column}
 use Rattle.columns.specs.Told.{columns_told}
 use Rattle.value_weigh.specs.Told.{Needs}
 use Rattle.judge_step.specs.Told.{needs_of}
-use Rattle.normal_step.specs.Steps.{fit_normal, normal_value}
+use Rattle.normal_step.specs.Steps.{normal_value}
 use Rattle.normal_step.proofs.Names.{at_normal}
-
--- ---- the room's test
-
-module _ (t : Read Needs) (n : Needs) (at size : ℕ) (e : t ≡ took n at) where
-  pub fit_short : size < n.normal → stops room ≡ fit_normal t size
-  fit_short l = rw (e, lt-ltb size n.normal l)
-
-  pub fit_enough : n.normal ≤ size → took n.normal at ≡ fit_normal t size
-  fit_enough l = rw (e, le-ltb size n.normal l)
 
 -- ---- the answer
 
@@ -50,18 +42,43 @@ module _ (cs : List D.Column) (s : List ℕ) (at size : ℕ) where
   unfolding fitted_read normal
   asked_stops x e = ap (λ (r : Read (List ℕ)). fitted_read (λ (bytes : List ℕ). bytes) r size) (at_map-stops (encode_row cs) (read_row cs) s at x e)
 
-  -- the room's test on what was judged is the room's test on the bytes
-  pub fit_normal_lem : (t : Read Needs) → t ≡ map_read (needs_of cs) (read_at (read_row cs) s at) → fit_normal t size ≡ map_read length asked
-  fit_normal_lem t h = ap (λ (x : Read Needs). fit_normal x size) h ∙ go (read_at (read_row cs) s at) refl
+  -- a row that was judged, and fits the room, has its normal form
+  pub normal_fits : (m : Needs) (n : ℕ) → took m n ≡ map_read (needs_of cs) (read_at (read_row cs) s at) → m.normal ≤ size
+      → (j : List ℕ) × (asked ≡ took j n) × (took m.normal n ≡ map_read length asked)
+  normal_fits m n h l = go (read_at (read_row cs) s at) refl
     where
-      by_room : (vs : List Value) (n : ℕ) (b : Bool)
-          → pick b (stops room) (took (length (encode_row cs vs)) n) ≡ map_read length (pick b (stops room) (took (encode_row cs vs) n))
-      by_room vs n true = refl
-      by_room vs n false = refl
+      go : (r : Read (List Value)) → read_at (read_row cs) s at ≡ r → (j : List ℕ) × (asked ≡ took j n) × (took m.normal n ≡ map_read length asked)
+      go (took vs k) e =
+          let w : took m n ≡ took (needs_of cs vs) k = rw e at h in
+          let q : m ≡ needs_of cs vs = cc in
+          let i : n ≡ k = cc in
+          let c : m.normal ≡ length (encode_row cs vs) = ap (λ (x : Needs). x.normal) q in
+          let a : asked ≡ took (encode_row cs vs) n =
+          asked_took vs k e ∙ rw (le-ltb size (length (encode_row cs vs)) (omega (arith, c, l)), i) in
+          (encode_row cs vs, a, rw (a, c) refl)
+      go (stops x) e = no_took x m n (rw e at (sym h))
 
-      go : (r : Read (List Value)) → read_at (read_row cs) s at ≡ r → fit_normal (map_read (needs_of cs) r) size ≡ map_read length asked
-      go (took vs n) e = by_room vs n (ltb size (length (encode_row cs vs))) ∙ ap (map_read length) (sym (asked_took vs n e))
-      go (stops x) e = ap (map_read length) (sym (asked_stops x e))
+  -- one that is longer is not answered
+  pub normal_long : (m : Needs) (n : ℕ) → took m n ≡ map_read (needs_of cs) (read_at (read_row cs) s at) → size < m.normal → asked ≡ stops room
+  normal_long m n h l = go (read_at (read_row cs) s at) refl
+    where
+      go : (r : Read (List Value)) → read_at (read_row cs) s at ≡ r → asked ≡ stops room
+      go (took vs k) e =
+          let w : took m n ≡ took (needs_of cs vs) k = rw e at h in
+          let q : m ≡ needs_of cs vs = cc in
+          let c : m.normal ≡ length (encode_row cs vs) = ap (λ (x : Needs). x.normal) q in
+          asked_took vs k e ∙ rw (lt-ltb size (length (encode_row cs vs)) (omega (arith, c, l)))
+      go (stops x) e = no_took x m n (rw e at (sym h))
+
+  -- and one that was refused is refused
+  pub normal_refused : (x : Refusal) → stops x ≡ map_read (needs_of cs) (read_at (read_row cs) s at) → asked ≡ stops x
+  normal_refused x h = go (read_at (read_row cs) s at) refl
+    where
+      go : (r : Read (List Value)) → read_at (read_row cs) s at ≡ r → asked ≡ stops x
+      go (took vs k) e = clash (cc (rw e at h))
+      go (stops y) e =
+          let i : x ≡ y = cc (rw e at h) in
+          rw i (asked_stops y e)
 
   -- what an answered row is
   pub record Answered (j : List ℕ) (n : ℕ) : Type 0 where

@@ -11,17 +11,13 @@ ghost use Rattle.packed.specs.Each.{parts_of};
 ghost use Rattle.packed.specs.Packed.{keeps_places};
 ghost use Rattle.packed.specs.Made.{collation_made, schema_made, fields_made, broken_made, column_made};
 
-use column_type::{Collation, Column, FixedLen, Name, Schema, TypeId};
+use column_type::{Collation, Column, FixedLen, Schema, TypeId};
 
 // How many records a table has; a shorter last one is one.
 pub fn records(table: &[u8]) -> usize
     ensures { result ≡ parts_of 16 (length table.now) }
 {
-    let whole = table.len() / 16;
-    if table.len() % 16 == 0 {
-        return whole;
-    }
-    whole + 1
+    table.len().div_ceil(16)
 }
 
 // A column that breaks the rule: a number without a field.
@@ -35,10 +31,7 @@ fn broken() -> Column
 fn unused_zero(used: bool, n: u64) -> bool
     ensures { result ≡ pick used true (eqb n 0) }
 {
-    if used {
-        return true;
-    }
-    n == 0
+    used || n == 0
 }
 
 // No other flag, and unused places zero.
@@ -55,10 +48,7 @@ fn keeps_places(r: &[u8]) -> bool
     }
     let collation = wire::inner::low_at(r, 8, 5);
     let index = wire::inner::low_at(r, 14, 2);
-    if unused_zero(flags % 2 == 1, collation) {
-        return unused_zero(flags / 2 == 1, index);
-    }
-    false
+    unused_zero(flags % 2 == 1, collation) && unused_zero(flags / 2 == 1, index)
 }
 
 // The collation, where the flag says that there is one.
@@ -67,67 +57,49 @@ fn collation_of(r: &[u8]) -> Option<Collation>
     ensures { result ≡ collation_made r.now }
 {
     if r[1] % 2 == 1 {
-        let info = wire::inner::low_at(r, 8, 4);
-        return Some(Collation {
-            info: info as u32,
+        Some(Collation {
+            info: wire::inner::low_at(r, 8, 4) as u32,
             sort: r[12],
-        });
+        })
+    } else {
+        None
     }
-    None
 }
 
 // The names, where the flag says that there are some.
-fn schema_of(flags: u8, database: Name, owner: Name, collection: Name) -> Option<Schema>
-    ensures { result ≡ schema_made flags database owner collection }
+fn schema_of(flags: u8, names: Schema) -> Option<Schema>
+    ensures { result ≡ schema_made flags names.database names.owner names.collection }
 {
-    if flags / 2 == 1 {
-        return Some(Schema {
-            database,
-            owner,
-            collection,
-        });
-    }
-    None
+    if flags / 2 == 1 { Some(names) } else { None }
 }
 
 // What stands at the places, under a type.
-fn fields_of(r: &[u8], ty: TypeId, database: Name, owner: Name, collection: Name) -> Column
+fn fields_of(r: &[u8], ty: TypeId, names: Schema) -> Column
     requires { 16 ≤ length r.now }
-    ensures { result ≡ fields_made ty r.now database owner collection }
+    ensures { result ≡ fields_made ty r.now names.database names.owner names.collection }
 {
-    let length = wire::inner::low_at(r, 4, 4);
-    let precision = r[2];
-    let scale = r[3];
-    let flags = r[1];
-    let collation = collation_of(r);
-    let schema = schema_of(flags, database, owner, collection);
     Column {
         ty,
-        length,
-        precision,
-        scale,
-        collation,
-        schema,
+        length: wire::inner::low_at(r, 4, 4),
+        precision: r[2],
+        scale: r[3],
+        collation: collation_of(r),
+        schema: schema_of(r[1], names),
     }
 }
 
 // The column of the record that the bytes begin with. Where it has a schema, its names are those given.
-pub fn column_of(r: &[u8], database: Name, owner: Name, collection: Name) -> Column
-    ensures { result ≡ column_made r.now database owner collection }
+pub fn column_of(r: &[u8], names: Schema) -> Column
+    ensures { result ≡ column_made r.now names.database names.owner names.collection }
 {
     if r.len() < 16 {
         return broken();
     }
-    if keeps_places(r) {
-        let t = column_byte::type_of(r[0]);
-        match t {
-            Some(ty) => {
-                return fields_of(r, ty, database, owner, collection);
-            }
-            None => {
-                return broken();
-            }
-        }
+    if !keeps_places(r) {
+        return broken();
     }
-    broken()
+    match TypeId::try_from(r[0]) {
+        Ok(ty) => fields_of(r, ty, names),
+        Err(_) => broken(),
+    }
 }

@@ -5,7 +5,7 @@ ghost use Rattle.lists.specs.Put.{put_at};
 ghost use Rattle.plain_write.specs.Bytes.{written_at};
 ghost use Rattle.row_step.specs.Steps.{FitsAt, bytes_in};
 
-use packed_value::inner as value;
+use packed_value::{Slot, inner as value};
 use row_step::inner as turn;
 
 // One value more, the column and the value made. It hands back the next unused place.
@@ -41,19 +41,12 @@ pub fn fill_at(
     ensures { (result ≡ at + length (bytes_in (written_at table.now values.now buffer.now i)))
         × (out.new ≡ put_at out.old at (bytes_in (written_at table.now values.now buffer.now i))) }
 {
-    let p = packed_plain::inner::plain_at(table, i);
-    let three = 3 * i;
-    let n = plain_write::inner::size_of(p, values[three]);
-    if n == 0 {
-        return fill_made(out, table, values, buffer, i, at);
+    let v = Slot::at(values, 3 * i);
+    match plain_write::inner::plain_at(table, i, v.kind) {
+        Some((p, n)) => {
+            plain_write::inner::put_in(out, at, p, v);
+            at + n
+        }
+        None => fill_made(out, table, values, buffer, i, at),
     }
-    plain_write::inner::put_in(
-        out,
-        at,
-        p,
-        values[three],
-        values[three + 1],
-        values[three + 2],
-    );
-    at + n
 }

@@ -20,10 +20,9 @@ pub fn judge_packed(table: &[u8], s: &[u8], cursor: Cursor) -> Result<RowNeeds, 
     ensures { row_judged_told result ≡ map_read (needs_of (table_columns table.now)) (read_at (read_row (table_columns table.now)) s.now cursor.at) }
 {
     let columns = packed::records(table);
-    let mut state = turn::start(columns, s.len(), cursor);
-    let n = turn::turns(state, columns);
-    for i in 0..n {
-        state = inner::judge_at(table, i, s, state);
+    let mut row = turn::start(columns, s.len(), cursor)?;
+    for i in 0..columns {
+        row = inner::judge_at(table, i, s, row)?;
     }
-    state
+    Ok(row)
 }

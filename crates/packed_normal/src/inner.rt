@@ -17,14 +17,12 @@ pub fn normal_at(out: &mut [u8], table: &[u8], i: usize, s: &[u8], run: Run) -> 
     ensures { RunGrows s.now out.old run (normal_value (column_told [] (column_made (drop (16 * i) table.now) no_name no_name no_name)) (drop run.at s.now)) out.new result }
 {
     let at = run.at;
-    let n = plain_look::inner::width_at(table, i, s, at);
-    if n != 0 {
-        return Run {
+    match plain_look::inner::width_at(table, i, s, at) {
+        Some(n) => Run {
             from: run.from,
             at: at + n,
             put: run.put,
-        };
+        },
+        None => turn::normal_on(out, table_inner::column_at(table, i), s, run),
     }
-    let c = table_inner::column_at(table, i);
-    turn::normal_on(out, c, s, run)
 }

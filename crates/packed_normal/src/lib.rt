@@ -26,13 +26,14 @@ pub fn normal_packed(
     ensures answer { normal_told result ≡ map_read length (fitted_read (λ (bytes : List ℕ). bytes) (read_at (normal (table_columns table.now)) s.now cursor.at) (length out.old)) }
     ensures room { out.new ≡ room_after_read (λ (bytes : List ℕ). bytes) (fitted_read (λ (bytes : List ℕ). bytes) (read_at (normal (table_columns table.now)) s.now cursor.at) (length out.old)) out.old }
 {
-    let judged = packed_judge::judge_packed(table, s, cursor);
-    let fits = turn::fit_in(judged, out.len());
-    let n = turn::turns(fits, packed::records(table));
-    let mut run = turn::open_run(fits, cursor);
-    for i in 0..n {
+    let row = packed_judge::judge_packed(table, s, cursor)?;
+    if out.len() < row.normal {
+        return Err(Refusal::Room);
+    }
+    let mut run = turn::open_run(cursor);
+    for i in 0..packed::records(table) {
         run = inner::normal_at(out, table, i, s, run);
     }
     value::close_run(out, s, run);
-    fits
+    Ok((row.normal, row.next))
 }

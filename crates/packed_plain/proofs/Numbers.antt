@@ -1,6 +1,7 @@
 -- A record whose type byte and length are the only numbers that are not zero stands for the column with that type and that length, and nothing else. So what
 -- the two numbers name, the record says.
 -- Assumes nothing.
+use Rattle.std.specs.Prelude.{None, Option, Some}
 use mathlib.Core.Path.{◌≡◌, sym, ap, ◌∙◌}
 use mathlib.Core.Bool.{true}
 use mathlib.Core.List.{List, [], ◌∷◌, ◌++◌}
@@ -20,7 +21,7 @@ use Rattle.format.proofs.DescriptorForm.{type_again}
 use Rattle.value_kind.specs.Told.{kind_told}
 use Rattle.value_kind.proofs.ScalarLaws.{width_most}
 use Rattle.packed.specs.Packed.{keeps_places, column_of, no_names}
-use Rattle.packed_plain.specs.Says.{bare_type, Named, Says}
+use Rattle.packed_plain.specs.Says.{bare_type, Named, Names, Says, Tells}
 use Rattle.packed_plain.specs.declared.Plain.{Plain}
 use Rattle.packed_plain.specs.declared.Plain.TheVariants as P
 
@@ -125,7 +126,6 @@ module _ (r : List ℕ) (b : Bytes r) (l : 16 ≤ length r) where
       let a = alone ty n last (byte_len_byte t) s (e ∙ d.0) z in
       let w = width (kind_told k) in
       (of_numbers (byte_len t) w s (omega (arith, width_most (kind_told k))) (rw d.1 at a), d.2)
-  says P.Other ty n last key d e z = tt
 
 -- ---- a record of a table
 
@@ -148,3 +148,9 @@ module _ (table : List ℕ) (at : ℕ) (known : (i : ℕ) → get_or table i 0 �
         second = ap (λ (l : List ℕ). low_nat (take 8 l)) (drop-drop 4 at table) ∙ sym b;
         third = ap (λ (l : List ℕ). low_nat (take 4 l)) (drop-drop 12 at table) ∙ sym c;
       })
+
+  -- the same where nothing may be named
+  pub table_tells : (o : Option Plain) (ty n last key : ℕ) → ty ≡ low_nat (take 4 record_at_lem) → n ≡ low_nat (take 8 (drop (at + 4) table))
+      → last ≡ low_nat (take 4 (drop (at + 12) table)) → ty + 4294967296 * last ≡ key → Names o key n → Tells o (column_of record_at_lem no_names)
+  table_tells (Some p) ty n last key a b c e d = table_says p ty n last key a b c e d
+  table_tells None ty n last key a b c e d = tt

@@ -1,5 +1,5 @@
 -- Columns whose values have one width, and what is said of them.
-use Rattle.std.specs.Prelude.{ℕ, ◌≡◌, Some}
+use Rattle.std.specs.Prelude.{ℕ, ◌≡◌, None, Option, Some}
 use Rattle.format.specs.Descriptor.{FixedLen, fixed_len, byte_len, fixed_byte, byte_len_byte, Column, plain}
 use Rattle.format.specs.Scalar.{Kind, width}
 use Rattle.format.specs.Value.{fixed_width, fixed_family, untyped_type}
@@ -33,10 +33,16 @@ IsBare k = (fixed_family (bare_type k) ≡ Some (fixed_width k)) × (k ≡ Kind.
 abbrev pub Says : Plain → Column → Type 0
 Says (P.Bare k) c = (c ≡ bare_column (kind_told k)) × IsBare (kind_told k)
 Says (P.Counted k) c = (c ≡ counted_column (kind_told k)) × (kind_told k ≡ Kind.bit → ⊥)
-Says P.Other c = Unit {0}
+
+abbrev pub Tells : Option Plain → Column → Type 0
+Tells (Some p) c = Says p c
+Tells None c = Unit {0}
 
 -- the same of a type byte and a length
 abbrev pub Named : Plain → ℕ → ℕ → Type 0
 Named (P.Bare k) ty n = (ty ≡ fixed_byte (bare_type (kind_told k))) × (n ≡ 0) × IsBare (kind_told k)
 Named (P.Counted k) ty n = (ty ≡ byte_len_byte (untyped_type (kind_told k))) × (n ≡ width (kind_told k)) × (kind_told k ≡ Kind.bit → ⊥)
-Named P.Other ty n = Unit {0}
+
+abbrev pub Names : Option Plain → ℕ → ℕ → Type 0
+Names (Some p) ty n = Named p ty n
+Names None ty n = Unit {0}

@@ -7,11 +7,10 @@ pub mod inner;
 
 use value_kind::kinds::Kind;
 
-// The kind's bytes alone; null, or the kind behind its length byte; or a column that must be made.
-// Bits are among the last: a bit's byte is not always the one that is written again.
+// The kind's bytes alone; or null, or the kind behind its length byte. Bits are neither: a bit's byte
+// is not always the one that is written again.
 #[derive(Clone, Copy)]
 pub enum Plain {
     Bare(Kind),
     Counted(Kind),
-    Other,
 }

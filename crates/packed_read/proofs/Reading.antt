@@ -1,14 +1,13 @@
 -- A row that is read into a room and a list of numbers: what is known where it was judged to fit both, and that a refusal changes nothing.
 -- Assumes nothing.
-use mathlib.Core.Path.{◌≡◌, refl}
-use mathlib.Core.Bool.{Bool, true, false}
+use mathlib.Core.Path.{◌≡◌, refl, ap}
 use mathlib.Core.List.{List, []}
-use Prim.Native.Nat.{ℕ, ◌*◌, ◌≤◌}
-use lib.Dec.{ltb}
+use Prim.Native.Nat.{ℕ, ◌*◌, ◌<◌, ◌≤◌}
+use native.Mathlib.Omega.{arith}
 use lib.ListN.{length}
-use borrow.Author.Tests.{ltb-false}
+use borrow.Author.Tests.{le-ltb, lt-ltb}
 use Rattle.lists.proofs.Split.{clash}
-use Rattle.format.specs.Answer.{Refusal, Read, took, stops, room, stop_if, map_read, read_at, fitted_read, room_after_read}
+use Rattle.format.specs.Answer.{Refusal, Read, took, stops, room, map_read, read_at, fitted_read, room_after_read}
 use Rattle.format.specs.Descriptor as D
 use Rattle.format.specs.Value.{Value}
 use Rattle.format.specs.Row.{read_values, read_row, copied_out_row}
@@ -17,17 +16,7 @@ use Rattle.value_weigh.specs.Told.{Needs}
 use Rattle.judge_step.specs.Told.{needs_of}
 use Rattle.read_step.proofs.Joining.{within}
 use Rattle.packed_slots.specs.Steps.{Readable}
-use Rattle.packed_read.specs.Told.{slotted, row_out, values_after}
-
--- the list's test on what was judged is the list's test on the row
-pub slotted-map : {A B : Type 0} (f : A → B) (columns numbers : ℕ) (r : Read A) → slotted columns numbers (map_read f r) ≡ map_read f
-    (slotted columns numbers r)
-slotted-map f columns numbers (took v n) = go (ltb numbers (3 * columns))
-  where
-    go : (t : Bool) → stop_if t room (took (f v) n) ≡ map_read f (stop_if t room (took v n))
-    go true = refl
-    go false = refl
-slotted-map f columns numbers (stops e) = refl
+use Rattle.packed_read.specs.Told.{row_out, values_after}
 
 module _ (cs : List D.Column) (s : List ℕ) (at size numbers : ℕ) where
   -- the row, where what it copies out fits the room
@@ -45,17 +34,60 @@ module _ (cs : List D.Column) (s : List ℕ) (at size numbers : ℕ) where
     pub same : out ≡ took values next
     pub place : 3 * length cs ≤ numbers
 
-  pub fits : (m : Needs) (k : ℕ) → took m k ≡ map_read (needs_of cs) out → Fits
-  fits m k h = go read refl
-    where
-      by_place : (vs : List Value) (n : ℕ) → read ≡ took vs n → (t : Bool) → ltb numbers (3 * length cs) ≡ t → Fits
-      by_place vs n e true t = clash (cc (rw (e, t) at h))
-      by_place vs n e false t =
-          record { values = vs; next = n; is = e; same = rw (e, t); place = ltb-false numbers (3 * length cs) t }
+  -- what the row needs
+  abbrev needed : Read Needs
+  needed = map_read (needs_of cs) (read_at (read_row cs) s at)
 
-      go : (r : Read (List Value)) → read ≡ r → Fits
-      go (took vs n) e = by_place vs n e (ltb numbers (3 * length cs)) refl
+  -- a row that was judged and fits the room is read
+  in_room : (m : Needs) (k : ℕ) → took m k ≡ needed → m.joined ≤ size → (vs : List Value) × (read ≡ took vs k) × (m ≡ needs_of cs vs)
+  unfolding fitted_read
+  in_room m k h l = go (read_at (read_row cs) s at) refl
+    where
+      go : (r : Read (List Value)) → read_at (read_row cs) s at ≡ r → (vs : List Value) × (read ≡ took vs k) × (m ≡ needs_of cs vs)
+      go (took vs n) e =
+          let w : took m k ≡ took (needs_of cs vs) n = rw e at h in
+          let q : m ≡ needs_of cs vs = cc in
+          let j : m.joined ≡ length (copied_out_row cs vs) = ap (λ (x : Needs). x.joined) q in
+          let i : n ≡ k = cc in
+          (vs, rw (e, le-ltb size (length (copied_out_row cs vs)) (omega (arith, j, l)), i), q)
       go (stops x) e = clash (cc (rw e at h))
+
+  -- and where the list has place for its numbers, that is the answer
+  pub fits : (m : Needs) (k : ℕ) → took m k ≡ needed → m.joined ≤ size → 3 * length cs ≤ numbers → Fits
+  fits m k h l p =
+      let r = in_room m k h l in
+      record { values = r.0; next = k; is = r.1; same = rw (r.1, le-ltb numbers (3 * length cs) p); place = p }
+
+  pub told : (m : Needs) (k : ℕ) → took m k ≡ needed → m.joined ≤ size → 3 * length cs ≤ numbers → took m k ≡ map_read (needs_of cs) out
+  told m k h l p =
+      let r = in_room m k h l in
+      rw (r.1, le-ltb numbers (3 * length cs) p) (ap (λ (x : Needs). took x k) r.2)
+
+  -- where it has not, that is the refusal
+  pub no_place : (m : Needs) (k : ℕ) → took m k ≡ needed → m.joined ≤ size → numbers < 3 * length cs → stops room ≡ map_read (needs_of cs) out
+  no_place m k h l p =
+      let r = in_room m k h l in
+      rw (r.1, lt-ltb numbers (3 * length cs) p)
+
+  pub no_room : (m : Needs) (k : ℕ) → took m k ≡ needed → size < m.joined → stops room ≡ map_read (needs_of cs) out
+  unfolding fitted_read
+  no_room m k h l = go (read_at (read_row cs) s at) refl
+    where
+      go : (r : Read (List Value)) → read_at (read_row cs) s at ≡ r → stops room ≡ map_read (needs_of cs) out
+      go (took vs n) e =
+          let w : took m k ≡ took (needs_of cs vs) n = rw e at h in
+          let q : m ≡ needs_of cs vs = cc in
+          let j : m.joined ≡ length (copied_out_row cs vs) = ap (λ (x : Needs). x.joined) q in
+          rw (e, lt-ltb size (length (copied_out_row cs vs)) (omega (arith, j, l)))
+      go (stops x) e = clash (cc (rw e at h))
+
+  pub refused : (x : Refusal) → stops x ≡ needed → stops x ≡ map_read (needs_of cs) out
+  unfolding fitted_read
+  refused x h = go (read_at (read_row cs) s at) refl
+    where
+      go : (r : Read (List Value)) → read_at (read_row cs) s at ≡ r → stops x ≡ map_read (needs_of cs) out
+      go (took vs n) e = clash (cc (rw e at h))
+      go (stops y) e = rw e (rw e at h)
 
   -- the row can be taken value by value
   pub row_read : (f : Fits) → read_at (read_values cs) s at ≡ took f.values f.next

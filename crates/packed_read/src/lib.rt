@@ -12,23 +12,7 @@ ghost use Rattle.packed_read.specs.Told.{slotted, row_out, values_after};
 
 use cursor::Cursor;
 use judge_step::RowNeeds;
-use read_step::inner as turn;
 use wire::Refusal;
-
-// Is there place for three numbers a column? The last thing that is asked.
-fn place_for(
-    judged: Result<RowNeeds, Refusal>,
-    columns: usize,
-    numbers: usize,
-) -> Result<RowNeeds, Refusal>
-    ensures { row_judged_told result ≡ slotted columns numbers (row_judged_told judged) }
-{
-    let row = judged?;
-    if numbers / 3 < columns {
-        return Err(Refusal::Room);
-    }
-    Ok(row)
-}
 
 // The row at the cursor: what it needed and where it ends. Its values stand at the front of the list
 // of numbers, what PLP content joins to at the front of the room.
@@ -43,10 +27,13 @@ pub fn read_packed(
     ensures room { out.new ≡ room_after_read (copied_out_row (table_columns table.now)) (row_out (table_columns table.now) s.now cursor.at (length out.old) (length values.old)) out.old }
     ensures numbers { values.new ≡ values_after (table_columns table.now) s.now cursor.at (row_out (table_columns table.now) s.now cursor.at (length out.old) (length values.old)) values.old }
 {
-    let judged = packed_judge::judge_packed(table, s, cursor);
-    let fits = turn::fit_in(judged, out.len());
-    let columns = packed::records(table);
-    let row = place_for(fits, columns, values.len())?;
+    let row = packed_judge::judge_packed(table, s, cursor)?;
+    if out.len() < row.joined {
+        return Err(Refusal::Room);
+    }
+    if values.len() / 3 < packed::records(table) {
+        return Err(Refusal::Room);
+    }
     packed_slots::inner::take_values(out, values, table, s, cursor);
     Ok(row)
 }

@@ -9,7 +9,7 @@ ghost use Rattle.wire.specs.Told.{answer_told};
 ghost use Rattle.packed.specs.Packed.{table_columns};
 ghost use Rattle.packed_value.specs.Numbers.{givens, no_values, unless};
 ghost use Rattle.plain_write.specs.Bytes.{written_at};
-ghost use Rattle.row_step.specs.Steps.{size_on, Below};
+ghost use Rattle.row_step.specs.Steps.{size_on, most_of};
 
 use packed::inner;
 use packed_value::inner as value;
@@ -22,14 +22,14 @@ fn size_made(
     values: &[u64],
     buffer: &[u8],
     i: usize,
-    s: Result<usize, Refusal>,
+    sum: usize,
 ) -> Result<usize, Refusal>
-    requires { (16 * i < length table.now) × (3 * i + 3 ≤ length values.now) × Below 1024 (answer_told s) }
-    ensures { answer_told result ≡ size_on (answer_told s) (written_at table.now values.now buffer.now i) }
+    requires { (16 * i < length table.now) × (3 * i + 3 ≤ length values.now) × (sum ≤ 1024 * most_of) }
+    ensures { answer_told result ≡ size_on sum (written_at table.now values.now buffer.now i) }
 {
     let c = inner::column_at(table, i);
     let v = value::value_at(values, i);
-    turn::size_on(c, v, buffer, s)
+    turn::size_on(c, v, buffer, sum)
 }
 
 // The same, by the numbers alone where they tell it.
@@ -38,19 +38,15 @@ fn size_at(
     values: &[u64],
     buffer: &[u8],
     i: usize,
-    s: Result<usize, Refusal>,
+    sum: usize,
 ) -> Result<usize, Refusal>
-    requires { (16 * i < length table.now) × (3 * i + 3 ≤ length values.now) × Below 1024 (answer_told s) }
-    ensures { answer_told result ≡ size_on (answer_told s) (written_at table.now values.now buffer.now i) }
+    requires { (16 * i < length table.now) × (3 * i + 3 ≤ length values.now) × (sum ≤ 1024 * most_of) }
+    ensures { answer_told result ≡ size_on sum (written_at table.now values.now buffer.now i) }
 {
-    let sum = s?;
-    let p = packed_plain::inner::plain_at(table, i);
-    let at = 3 * i;
-    let n = plain_write::inner::size_of(p, values[at]);
-    if n == 0 {
-        return size_made(table, values, buffer, i, Ok(sum));
+    match plain_write::inner::plain_at(table, i, values[3 * i]) {
+        Some((_, n)) => Ok(sum + n),
+        None => size_made(table, values, buffer, i, sum),
     }
-    Ok(sum + n)
 }
 
 // The row's size, of values that were judged.
@@ -59,12 +55,11 @@ fn size_judged(table: &[u8], values: &[u64], buffer: &[u8]) -> Result<usize, Ref
     ensures { answer_told result ≡ wrote (write_row (table_columns table.now) (givens buffer.now values.now)) }
 {
     let columns = packed::records(table);
-    let mut s = turn::start(columns, packed_value::count(values));
-    let n = turn::turns(s, columns);
-    for i in 0..n {
-        s = size_at(table, values, buffer, i, s);
+    let mut sum = turn::start(columns, packed_value::count(values))?;
+    for i in 0..columns {
+        sum = size_at(table, values, buffer, i, sum)?;
     }
-    s
+    Ok(sum)
 }
 
 // How many bytes the row takes, or why it cannot be written.

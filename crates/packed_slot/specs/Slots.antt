@@ -5,7 +5,7 @@ use Rattle.lists.specs.Pick.{pick}
 use Rattle.format.specs.Number.{unsigned, high_nat}
 use Rattle.format.specs.Scalar.{Scalar}
 use Rattle.format.specs.Found.{Stand, in_input, in_room, Found}
-use Rattle.packed_slot.specs.declared.Slot.{Slot}
+use Rattle.packed_value.specs.declared.Slot.{Slot}
 
 -- integers in 64 bits, two's complement; floats by their bits; a GUID by its two halves in text order
 abbrev pub scalar_slot : Scalar → List ℕ

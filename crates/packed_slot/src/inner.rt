@@ -1,36 +1,14 @@
 // The numbers of a value that was found, for the crates of this repository.
-ghost use Rattle.std.specs.Prelude.{◌≡◌, [], ◌∷◌, ◌<◌};
-ghost use Rattle.format.specs.Number.{signed, unsigned};
+ghost use Rattle.std.specs.Prelude.{◌≡◌, [], ◌∷◌};
+ghost use Rattle.format.specs.Number.{unsigned};
 ghost use Rattle.value_kind.specs.Told.{scalar_told, Canonical};
 ghost use Rattle.value_found.specs.Told.{stand_told, found_told, CanonicalFound};
 ghost use Rattle.packed_slot.specs.Slots.{scalar_slot, content_slot, slot_of, slot_told};
 
-use crate::Slot;
 use bits::signed;
+use packed_value::Slot;
 use value_found::{Found, Stand};
-use value_kind::{Scalar, kinds};
-
-// The integer of two bytes whose bits these are, in 64 bits.
-pub fn widen_two(n: u64) -> u64
-    requires { n < 65536 }
-    ensures { result ≡ unsigned 8 (signed 2 n) }
-{
-    if n < 32768 {
-        return n;
-    }
-    n + 18446744073709486080
-}
-
-// Of four bytes.
-pub fn widen_four(n: u64) -> u64
-    requires { n < 4294967296 }
-    ensures { result ≡ unsigned 8 (signed 4 n) }
-{
-    if n < 2147483648 {
-        return n;
-    }
-    n + 18446744069414584320
-}
+use value_kind::Scalar;
 
 // An integer of two bytes in 64 bits.
 fn wide16(z: i16) -> u64
@@ -62,7 +40,7 @@ fn scalar_slot(v: Scalar) -> Slot
     requires { Canonical v }
     ensures { slot_told result ≡ scalar_slot (scalar_told v) }
 {
-    let n = kinds::number_of(v);
+    let n = v.number();
     match v {
         Scalar::Bit(_) => one(1, n),
         Scalar::U8(_) => one(2, n),

@@ -3,11 +3,3 @@
 #![tactic(auto)]
 
 pub mod inner;
-
-// The three numbers.
-#[derive(Clone, Copy)]
-pub struct Slot {
-    pub kind: u64,
-    pub first: u64,
-    pub second: u64,
-}

@@ -44,7 +44,6 @@ slot_found (P.Counted k) rest d at copied = go (eqb (get_or rest 0 0) 0)
         let v = pick b Value.null (value_in (P.Bare k) (drop 1 rest)) in value_slot v ≡ slot_of (found_of d at copied v)
     go true = refl
     go false = refl
-slot_found P.Other rest d at copied = refl
 
 put_none : (out : List ℕ) (o : ℕ) → out ≡ put_at out o []
 unfolding put_at

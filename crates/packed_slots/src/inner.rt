@@ -16,7 +16,8 @@ ghost use Rattle.packed_slots.specs.Steps.{Taken, Readable};
 use column_type::Column;
 use cursor::Cursor;
 use packed::inner as table_inner;
-use packed_slot::{Slot, inner as slot};
+use packed_slot::inner as slot;
+use packed_value::Slot;
 use read_step::inner as turn;
 use row_place::RowPlace;
 
@@ -68,17 +69,23 @@ fn take_at(
     ensures { Taken (column_of (drop (16 * i) table.now) no_names) (read_at (read_value (column_of (drop (16 * i) table.now) no_names)) s.now place.cursor.at) (place_told place) (3 * i) values.old out.old values.new out.new (place_told result) }
 {
     let at = place.cursor.at;
-    let p = packed_plain::inner::plain_at(table, i);
-    let n = plain_look::inner::width_in(p, s, at);
-    if n != 0 {
-        store(values, 3 * i, plain_slot::inner::slot_in(p, s, at));
-        return RowPlace {
-            cursor: Cursor { at: at + n },
-            copied: place.copied,
-        };
+    match plain_look::inner::look_at(table, i, s, at) {
+        Some((p, n)) => {
+            store(values, 3 * i, plain_slot::inner::slot_in(p, s, at));
+            RowPlace {
+                cursor: Cursor { at: at + n },
+                copied: place.copied,
+            }
+        }
+        None => take_value(
+            out,
+            values,
+            3 * i,
+            table_inner::column_at(table, i),
+            s,
+            place,
+        ),
     }
-    let c = table_inner::column_at(table, i);
-    take_value(out, values, 3 * i, c, s, place)
 }
 
 // The values of a row: their numbers at the front of the list, content at the front of the room.

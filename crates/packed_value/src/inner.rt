@@ -1,37 +1,40 @@
-// The value of three numbers, for the crates of this repository. Numbers that are none make some
-// value all the same: whoever calls has judged them.
-ghost use Rattle.std.specs.Prelude.{◌≡◌, ◌≤◌, ◌*◌, ◌+◌, length, drop};
-ghost use Rattle.packed_value.specs.Made.{value_made, given_made};
+// The value at a place of a list, and integers of few bytes in 64 bits, for the crates of this
+// repository.
+ghost use Rattle.std.specs.Prelude.{◌≡◌, ◌≤◌, ◌*◌, ◌+◌, length, drop, slice_index};
+ghost use Rattle.format.specs.Number.{signed, unsigned};
+ghost use Rattle.packed_value.specs.Made.{given_made};
 
-use bits::{float, signed};
-use value_kind::{Scalar, Span, Value};
-use wire::Guid;
+use crate::Slot;
+use bits::signed;
+use value_kind::Value;
 
-// The value of a kind's number and two more.
-pub fn value_of(kind: u64, first: u64, second: u64) -> Value
-    ensures { result ≡ value_made kind first second }
+// The integer of two bytes whose bits these are, in 64 bits.
+pub fn widen_two(n: u16) -> u64
+    ensures { result ≡ unsigned 8 (signed 2 n) }
 {
-    match kind {
-        1 => Value::Scalar(Scalar::Bit(first != 0)),
-        2 => Value::Scalar(Scalar::U8((first % 256) as u8)),
-        3 => Value::Scalar(Scalar::I16(signed::to_i16((first % 65536) as u16))),
-        4 => Value::Scalar(Scalar::I32(signed::to_i32((first % 4294967296) as u32))),
-        5 => Value::Scalar(Scalar::I64(signed::to_i64(first))),
-        6 => Value::Scalar(Scalar::from(float::from_bits32((first % 4294967296) as u32))),
-        7 => Value::Scalar(Scalar::from(float::from_bits64(first))),
-        8 => Value::Scalar(Scalar::Guid(Guid {
-            high: first,
-            low: second,
-        })),
-        9 => Value::Binary(Span {
-            start: first as usize,
-            count: second as usize,
-        }),
-        10 => Value::String(Span {
-            start: first as usize,
-            count: second as usize,
-        }),
-        _ => Value::Null,
+    signed::of_i64(i64::from(signed::to_i16(n)))
+}
+
+// Of four bytes.
+pub fn widen_four(n: u32) -> u64
+    ensures { result ≡ unsigned 8 (signed 4 n) }
+{
+    signed::of_i64(i64::from(signed::to_i32(n)))
+}
+
+impl Slot {
+    // The three numbers at a place of a list.
+    pub fn at(values: &[u64], at: usize) -> Slot
+        requires { at + 3 ≤ length values.now }
+        ensures kind { result.kind ≡ slice_index values.now at }
+        ensures first { result.first ≡ slice_index values.now (at + 1) }
+        ensures second { result.second ≡ slice_index values.now (at + 2) }
+    {
+        Slot {
+            kind: values[at],
+            first: values[at + 1],
+            second: values[at + 2],
+        }
     }
 }
 
@@ -40,6 +43,5 @@ pub fn value_at(values: &[u64], i: usize) -> Value
     requires { 3 * i + 3 ≤ length values.now }
     ensures { result ≡ given_made (drop (3 * i) values.now) }
 {
-    let at = 3 * i;
-    value_of(values[at], values[at + 1], values[at + 2])
+    Value::from(Slot::at(values, 3 * i))
 }

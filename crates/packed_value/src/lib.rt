@@ -6,31 +6,20 @@ pub mod inner;
 
 ghost use Rattle.std.specs.Prelude.{◌≡◌, length};
 ghost use Rattle.packed.specs.Each.{parts_of};
-ghost use Rattle.packed_value.specs.Numbers.{is_signed, is_number, is_value, no_value, no_values};
+ghost use Rattle.packed_value.specs.Numbers.{is_number, is_value, no_value, no_values};
 ghost use Rattle.packed_value.specs.Made.{judged_told};
 
-use wire::Refusal;
+use bits::float::{Float32, Float64};
+use bits::signed;
+use value_kind::{Scalar, Span, Value};
+use wire::{Guid, Refusal};
 
-// Are these the 64 bits of an integer of two bytes?
-fn signed_two(n: u64) -> bool
-    ensures { result ≡ is_signed 2 n }
-{
-    let low = n % 65536;
-    if low < 32768 {
-        return n == low;
-    }
-    n == low + 18446744073709486080
-}
-
-// Of four bytes?
-fn signed_four(n: u64) -> bool
-    ensures { result ≡ is_signed 4 n }
-{
-    let low = n % 4294967296;
-    if low < 2147483648 {
-        return n == low;
-    }
-    n == low + 18446744069414584320
+// The three numbers of a value: its kind's, and two more.
+#[derive(Clone, Copy)]
+pub struct Slot {
+    pub kind: u64,
+    pub first: u64,
+    pub second: u64,
 }
 
 // Is there a value of the kind with this number?
@@ -41,27 +30,57 @@ fn is_number(kind: u64, n: u64) -> bool
         0 => n == 0,
         1 => n < 2,
         2 => n < 256,
-        3 => signed_two(n),
-        4 => signed_four(n),
+        3 => n == inner::widen_two((n % 65536) as u16),
+        4 => n == inner::widen_four((n % 4294967296) as u32),
         6 => n < 4294967296,
         _ => true,
     }
 }
 
-// Is there a value of the kind with these two numbers?
-pub fn is_value(kind: u64, first: u64, second: u64) -> bool
-    ensures { result ≡ is_value kind first second }
-{
-    if 10 < kind {
-        return false;
+impl Slot {
+    // Is there a value with these numbers?
+    pub fn is_value(self) -> bool
+        ensures { result ≡ is_value self.kind self.first self.second }
+    {
+        if 7 < self.kind {
+            return self.kind < 11;
+        }
+        self.second == 0 && is_number(self.kind, self.first)
     }
-    if 7 < kind {
-        return true;
+}
+
+// The value of three numbers. Numbers that are none make some value all the same: whoever calls has
+// judged them.
+impl From<Slot> for Value {
+    ghost use Rattle.std.specs.Prelude.{◌≡◌};
+    ghost use Rattle.packed_value.specs.Made.{value_made};
+
+    ghost from_gives = { λ s v. v ≡ value_made s.kind s.first s.second };
+
+    fn from(s: Slot) -> Value {
+        match s.kind {
+            1 => Value::Scalar(Scalar::Bit(s.first != 0)),
+            2 => Value::Scalar(Scalar::U8((s.first % 256) as u8)),
+            3 => Value::Scalar(Scalar::I16(signed::to_i16((s.first % 65536) as u16))),
+            4 => Value::Scalar(Scalar::I32(signed::to_i32((s.first % 4294967296) as u32))),
+            5 => Value::Scalar(Scalar::I64(signed::to_i64(s.first))),
+            6 => Value::Scalar(Scalar::from(Float32::from((s.first % 4294967296) as u32))),
+            7 => Value::Scalar(Scalar::from(Float64::from(s.first))),
+            8 => Value::Scalar(Scalar::Guid(Guid {
+                high: s.first,
+                low: s.second,
+            })),
+            9 => Value::Binary(Span {
+                start: s.first as usize,
+                count: s.second as usize,
+            }),
+            10 => Value::String(Span {
+                start: s.first as usize,
+                count: s.second as usize,
+            }),
+            _ => Value::Null,
+        }
     }
-    if second != 0 {
-        return false;
-    }
-    is_number(kind, first)
 }
 
 // Why the three numbers that a list begins with are no value.
@@ -71,7 +90,7 @@ pub fn judge_value(v: &[u64]) -> Result<(), Refusal>
     if v.len() < 3 {
         return Err(Refusal::Rule);
     }
-    if is_value(v[0], v[1], v[2]) {
+    if Slot::at(v, 0).is_value() {
         return Ok(());
     }
     Err(Refusal::Kind)
@@ -81,11 +100,7 @@ pub fn judge_value(v: &[u64]) -> Result<(), Refusal>
 pub fn count(values: &[u64]) -> usize
     ensures { result ≡ parts_of 3 (length values.now) }
 {
-    let whole = values.len() / 3;
-    if values.len() % 3 == 0 {
-        return whole;
-    }
-    whole + 1
+    values.len().div_ceil(3)
 }
 
 // Why the values of a list are none, from the left.

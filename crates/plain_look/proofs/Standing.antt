@@ -1,5 +1,6 @@
 -- Values of one width, under the columns that have them: what is read, and what is written for it. Kind by kind the definitions compute.
 -- Assumes nothing.
+use Rattle.std.specs.Prelude.{Some}
 use mathlib.Core.Path.{◌≡◌, refl, sym, ap, ◌∙◌}
 use mathlib.Core.Bool.{Bool, true, false}
 use mathlib.Core.List.{List, [], ◌∷◌}
@@ -25,7 +26,6 @@ use Rattle.value_form.proofs.Forming.{scalar_forth, kind_of_lem}
 use Rattle.packed_plain.specs.Says.{bare_column, counted_column, IsBare}
 use Rattle.value_kind.specs.declared.kinds.Kind as K
 use Rattle.value_kind.specs.Told.{kind_told}
-use Rattle.packed_plain.specs.declared.Plain.{Plain}
 use Rattle.packed_plain.specs.declared.Plain.TheVariants as P
 use Rattle.plain_look.specs.Stands.{Stands, scalar_in, IsWidth}
 
@@ -152,24 +152,20 @@ counted-stands k s n b h =
 
 -- ---- what the code answers
 
--- 0 says nothing
-pub never : (p : Plain) (rest : List ℕ) → IsWidth p rest 0
-never p rest c said n = absurd (n refl)
-
 module _ (k : K.Kind) where
-  pub bare-width : (w : ℕ) (rest : List ℕ) → w ≡ width (kind_told k) → Bytes rest → w ≤ length rest → IsWidth (P.Bare k) rest w
-  bare-width w rest e b h c said n =
+  pub bare-width : (w : ℕ) (rest : List ℕ) → w ≡ width (kind_told k) → Bytes rest → w ≤ length rest → IsWidth (P.Bare k) rest (Some w)
+  bare-width w rest e b h c said =
       let l : width (kind_told k) ≤ length rest = rw e at h in
       (rw (said.0, e) (bare-stands (kind_told k) rest said.1 b l), (l, said.1.1))
 
-  pub null-width : (rest : List ℕ) → 0 < length rest → get_or rest 0 0 ≡ 0 → IsWidth (P.Counted k) rest 1
-  null-width [] l e c said n = absurd (omega (arith, l))
-  null-width (x ∷ rest) l e c said n = (rw (said.0, e) (null-stands (kind_told k) rest), (l, λ z. absurd (z e), said.1))
+  pub null-width : (rest : List ℕ) → 0 < length rest → get_or rest 0 0 ≡ 0 → IsWidth (P.Counted k) rest (Some 1)
+  null-width [] l e c said = absurd (omega (arith, l))
+  null-width (x ∷ rest) l e c said = (rw (said.0, e) (null-stands (kind_told k) rest), (l, λ z. absurd (z e), said.1))
 
   pub counted-width : (w : ℕ) (rest : List ℕ) → get_or rest 0 0 ≡ w → w ≡ width (kind_told k) → (w ≡ 0 → ⊥) → Bytes rest → w < length rest
-      → IsWidth (P.Counted k) rest (1 + w)
-  counted-width w [] f e z b l c said n = absurd (omega (arith, l))
-  counted-width w (x ∷ rest) f e z b l c said n =
+      → IsWidth (P.Counted k) rest (Some (1 + w))
+  counted-width w [] f e z b l c said = absurd (omega (arith, l))
+  counted-width w (x ∷ rest) f e z b l c said =
       let t : eqb x 0 ≡ false = ne_eqb x 0 (λ q. z (sym f ∙ q)) in (
         rw (said.0, t, f, e) (counted-stands (kind_told k) rest said.1 (bytes_drop 1 (x ∷ rest) b) (omega (arith, l, e))),
         (omega (arith, l), λ _. omega (arith, l, e), said.1),

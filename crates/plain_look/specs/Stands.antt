@@ -1,5 +1,5 @@
 -- A value of one width that is there: what was read, how many bytes it took, and that they are the bytes that are written for it.
-use Rattle.std.specs.Prelude.{ℕ, ◌+◌, ◌<◌, ◌≤◌, ◌≡◌, List, [], eqb, length, get_or, take, drop}
+use Rattle.std.specs.Prelude.{ℕ, ◌+◌, ◌<◌, ◌≤◌, ◌≡◌, List, [], eqb, length, get_or, take, drop, None, Option, Some}
 use Rattle.lists.specs.Pick.{pick}
 use Rattle.format.specs.Answer.{took}
 use Rattle.format.specs.Descriptor.{Column}
@@ -24,17 +24,21 @@ scalar_in k rest = Value.scalar (scalar_of k (take (width k) rest))
 abbrev pub value_in : Plain → List ℕ → Value
 value_in (P.Bare k) rest = scalar_in (kind_told k) rest
 value_in (P.Counted k) rest = pick (eqb (get_or rest 0 0) 0) Value.null (scalar_in (kind_told k) (drop 1 rest))
-value_in P.Other rest = Value.null
 
 -- its bytes are there, and it is no bit
 abbrev pub HasBytes : Plain → List ℕ → Type 0
 HasBytes (P.Bare k) rest = (width (kind_told k) ≤ length rest) × (kind_told k ≡ Kind.bit → ⊥)
 HasBytes (P.Counted k) rest = (0 < length rest) × ((get_or rest 0 0 ≡ 0 → ⊥) → 1 + width (kind_told k) ≤ length rest) × (kind_told k ≡ Kind.bit → ⊥)
-HasBytes P.Other rest = Unit {0}
 
--- A count that is not 0 is the value's.
-abbrev pub IsWidth : Plain → List ℕ → ℕ → Type 0
-IsWidth p rest n = (c : Column) → Says p c → (n ≡ 0 → ⊥) → (Stands c rest (value_in p rest) n × HasBytes p rest)
+-- a width that is told is the value's
+abbrev pub IsWidth : Plain → List ℕ → Option ℕ → Type 0
+IsWidth p rest None = Unit {0}
+IsWidth p rest (Some n) = (c : Column) → Says p c → (Stands c rest (value_in p rest) n × HasBytes p rest)
 
-abbrev pub IsWidthIn : Column → List ℕ → ℕ → Type 0
-IsWidthIn c rest n = (n ≡ 0 → ⊥) → ((v : Value) × Stands c rest v n)
+abbrev pub IsLook : Column → List ℕ → Option (Plain × ℕ) → Type 0
+IsLook c rest None = Unit {0}
+IsLook c rest (Some (p, n)) = Stands c rest (value_in p rest) n × HasBytes p rest
+
+abbrev pub IsWidthIn : Column → List ℕ → Option ℕ → Type 0
+IsWidthIn c rest None = Unit {0}
+IsWidthIn c rest (Some n) = (v : Value) × Stands c rest v n

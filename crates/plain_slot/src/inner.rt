@@ -9,7 +9,8 @@ ghost use Rattle.plain_look.specs.Stands.{value_in, HasBytes};
 ghost use Rattle.plain_slot.specs.Slots.{value_slot};
 
 use packed_plain::Plain;
-use packed_slot::{Slot, inner as slot};
+use packed_slot::inner as slot;
+use packed_value::{Slot, inner as three};
 use value_kind::kinds::Kind;
 use wire::inner;
 
@@ -34,8 +35,8 @@ fn slot_at(k: Kind, s: &[u8], at: usize) -> Slot
     match k {
         Kind::Bit => slot::one(1, 0),
         Kind::U8 => slot::one(2, inner::low_at(s, at, 1)),
-        Kind::I16 => slot::one(3, slot::widen_two(inner::low_at(s, at, 2))),
-        Kind::I32 => slot::one(4, slot::widen_four(inner::low_at(s, at, 4))),
+        Kind::I16 => slot::one(3, three::widen_two(inner::low_at(s, at, 2) as u16)),
+        Kind::I32 => slot::one(4, three::widen_four(inner::low_at(s, at, 4) as u32)),
         Kind::I64 => slot::one(5, inner::low_at(s, at, 8)),
         Kind::F32 => slot::one(6, inner::low_at(s, at, 4)),
         Kind::F64 => slot::one(7, inner::low_at(s, at, 8)),
@@ -62,6 +63,5 @@ pub fn slot_in(p: Plain, s: &[u8], at: usize) -> Slot
     match p {
         Plain::Bare(k) => slot_at(k, s, at),
         Plain::Counted(k) => counted_slot(k, s, at),
-        Plain::Other => slot::one(0, 0),
     }
 }

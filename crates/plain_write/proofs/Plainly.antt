@@ -29,7 +29,7 @@ use Rattle.packed_value.proofs.Told.{value_told_lem}
 use Rattle.packed_plain.specs.Says.{bare_column, counted_column, IsBare, Says}
 use Rattle.packed_plain.specs.declared.Plain.{Plain}
 use Rattle.packed_plain.specs.declared.Plain.TheVariants as P
-use Rattle.plain_write.specs.Bytes.{kind_bytes, plain_bytes, Takes, IsSize, written_at}
+use Rattle.plain_write.specs.Bytes.{kind_bytes, plain_bytes, Takes, Sizes, written_at}
 
 -- ---- numbers
 
@@ -154,28 +154,24 @@ counted_put out mid after bs at w n e f g = rw (f, e, ← g) (sets_then out at (
 
 -- ---- what the code answers
 
--- 0 says nothing
-pub never : (p : Plain) (kind : ℕ) → IsSize p kind 0
-never p kind c said n = absurd (n refl)
-
 module _ (k : K.Kind) (kind : ℕ) where
-  pub bare_size : (w : ℕ) → kind ≡ place (kind_told k) → w ≡ width (kind_told k) → IsSize (P.Bare k) kind w
-  bare_size w e f c said n buffer first second l =
+  pub bare_size : (w : ℕ) → kind ≡ place (kind_told k) → w ≡ width (kind_told k) → Sizes (P.Bare k) kind w
+  bare_size w e f c said buffer first second l =
       record {
         written = rw (said.0, e, given_is first second buffer (kind_told k))
             (bare_is first second (kind_told k) said.1 ∙ ap gives (bytes_are first second (kind_told k) said.1.1 l));
         counted = length-kind (kind_told k) first second ∙ sym f;
       }
 
-  pub null_size : kind ≡ 0 → IsSize (P.Counted k) kind 1
-  null_size e c said n buffer first second l =
+  pub null_size : kind ≡ 0 → Sizes (P.Counted k) kind 1
+  null_size e c said buffer first second l =
       record {
         written = rw (said.0, e, null_is buffer first second) (null-written (kind_told k));
         counted = rw e;
       }
 
-  pub counted_size : (w : ℕ) → (kind ≡ 0 → ⊥) → kind ≡ place (kind_told k) → w ≡ width (kind_told k) → IsSize (P.Counted k) kind (1 + w)
-  counted_size w z e f c said n buffer first second l =
+  pub counted_size : (w : ℕ) → (kind ≡ 0 → ⊥) → kind ≡ place (kind_told k) → w ≡ width (kind_told k) → Sizes (P.Counted k) kind (1 + w)
+  counted_size w z e f c said buffer first second l =
       let t : eqb kind 0 ≡ false = ne_eqb kind 0 z in
       let b = bytes_are first second (kind_told k) said.1 l in
       record {
@@ -207,7 +203,7 @@ module _ (table values buffer : List ℕ) (i : ℕ) where
       )
       (rw (get_or-drop at values 0 0, get_or-drop at values 1 0, get_or-drop at values 2 0, add-zero at))
 
-  pub taken_at : (p : Plain) (n : ℕ) → Says p (column_of (drop (16 * i) table) no_names) → IsSize p kind_at n → (n ≡ 0 → ⊥) → first_at < 256 ^ 8
+  pub taken_at : (p : Plain) (n : ℕ) → Says p (column_of (drop (16 * i) table) no_names) → Sizes p kind_at n → first_at < 256 ^ 8
       → Takes (written_at table values buffer i) (plain_bytes p kind_at first_at second_at) n
-  taken_at p n said size z l =
-      rw as_numbers (size (column_of (drop (16 * i) table) no_names) said z buffer first_at second_at l)
+  taken_at p n said size l =
+      rw as_numbers (size (column_of (drop (16 * i) table) no_names) said buffer first_at second_at l)

@@ -1,5 +1,5 @@
 -- The bytes of a value of one width by its three numbers, without the column and the value.
-use Rattle.std.specs.Prelude.{ℕ, ◌*◌, ◌^◌, ◌<◌, ◌≡◌, List, [], ◌∷◌, ◌++◌, eqb, length, drop}
+use Rattle.std.specs.Prelude.{ℕ, ◌*◌, ◌^◌, ◌<◌, ◌≤◌, ◌≡◌, List, [], ◌∷◌, ◌++◌, eqb, length, drop, None, Option, Some}
 use Rattle.lists.specs.Pick.{pick}
 use Rattle.format.specs.Answer.{Answer, gives}
 use Rattle.format.specs.Number.{low_bytes, high_bytes}
@@ -31,18 +31,26 @@ kind_bytes Kind.guid first second = guid_order (high_bytes 8 first ++ high_bytes
 abbrev pub plain_bytes : Plain → ℕ → ℕ → ℕ → List ℕ
 plain_bytes (P.Bare k) kind first second = kind_bytes (kind_told k) first second
 plain_bytes (P.Counted k) kind first second = pick (eqb kind 0) (0 ∷ []) (width (kind_told k) ∷ kind_bytes (kind_told k) first second)
-plain_bytes P.Other kind first second = []
 
 -- an answer is these bytes, n of them
 pub record Takes (a : Answer (List ℕ)) (bytes : List ℕ) (n : ℕ) : Type 0 where
   pub written : a ≡ gives bytes
   pub counted : length bytes ≡ n
 
--- A count that is not 0 is the value's, whatever its other numbers are.
-abbrev pub IsSize : Plain → ℕ → ℕ → Type 0
-IsSize p kind n =
-    (c : Column) → Says p c → (n ≡ 0 → ⊥) → (buffer : List ℕ) (first second : ℕ) → first < 256 ^ 8
+-- The count is the value's, whatever its other numbers are.
+abbrev pub Sizes : Plain → ℕ → ℕ → Type 0
+Sizes p kind n =
+    (c : Column) → Says p c → (buffer : List ℕ) (first second : ℕ) → first < 256 ^ 8
     → Takes (write_value c (value_of buffer kind first second)) (plain_bytes p kind first second) n
+
+abbrev pub IsSize : Plain → ℕ → Option ℕ → Type 0
+IsSize p kind None = Unit {0}
+IsSize p kind (Some n) = (n ≤ 17) × Sizes p kind n
+
+-- the same of what is told of a column
+abbrev pub IsPlain : Column → ℕ → Option (Plain × ℕ) → Type 0
+IsPlain c kind None = Unit {0}
+IsPlain c kind (Some (p, n)) = Says p c × (n ≤ 17) × Sizes p kind n
 
 -- the value at i under the column at i, as the code makes both
 abbrev pub written_at : List ℕ → List ℕ → List ℕ → ℕ → Answer (List ℕ)

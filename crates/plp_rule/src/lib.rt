@@ -43,49 +43,26 @@ pub fn eight_of(n: u64) -> Result<Eight, Refusal>
 pub fn above(limit: u64, sum: u64, n: u64) -> bool
     ensures { result ≡ ltb limit (sum + n) }
 {
-    if limit < sum {
-        return true;
-    }
-    if limit - sum < n {
-        return true;
-    }
-    false
+    limit < sum || limit - sum < n
 }
 
 // Are n bytes more above a known total?
 pub fn above_total(total: Option<u64>, sum: u64, n: u64) -> bool
     ensures { result ≡ above_total (total_told total) (sum + n) }
 {
-    match total {
-        None => false, // there is no total to be above
-        Some(t) => above(t, sum, n),
-    }
+    total.is_some_and(|t| above(t, sum, n))
 }
 
 // Is the sum another than a known total?
 pub fn unlike_total(total: Option<u64>, sum: u64) -> bool
     ensures { result ≡ unlike_total (total_told total) sum }
 {
-    match total {
-        None => false,
-        Some(t) => {
-            if sum == t {
-                return false;
-            }
-            true
-        }
-    }
+    total.is_some_and(|t| sum != t)
 }
 
 // Is an even count asked, and the sum odd?
 pub fn is_odd(text: bool, sum: u64) -> bool
     ensures { result ≡ is_odd text sum }
 {
-    if text {
-        if sum % 2 == 0 {
-            return false;
-        }
-        return true;
-    }
-    false
+    text && sum % 2 == 1
 }

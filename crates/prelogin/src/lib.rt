@@ -4,7 +4,6 @@
 
 ghost use Rattle.std.specs.Prelude.{◌≡◌, ◌+◌, ◌≤◌, length};
 ghost use Rattle.std.proofs.lemmas.List.Edits.{sets};
-ghost use Rattle.lists.specs.Pick.{pick};
 ghost use Rattle.format.specs.Answer.{fitted, wrote, room_after};
 ghost use Rattle.format.specs.Prelogin.{write_prelogin};
 ghost use Rattle.wire.specs.Told.{answer_told};
@@ -89,13 +88,6 @@ impl TryFrom<u8> for Encryption {
     }
 }
 
-// A truth value's byte.
-fn truth_byte(b: bool) -> u8
-    ensures { result ≡ pick b 1 0 }
-{
-    if b { 1 } else { 0 }
-}
-
 // An entry of the table: an option's token, and where its data stand and how long they are.
 fn put_entry(out: &mut [u8], at: usize, token: u8, offset: u64, count: u64)
     requires { at + 5 ≤ length out.old }
@@ -122,13 +114,11 @@ fn put_data(out: &mut [u8], at: usize, p: Prelogin)
     requires { at + 12 ≤ length out.old }
     ensures { out.new ≡ sets out.old at (data_bytes p) }
 {
-    let encryption = p.encryption;
-    let mars = p.mars;
     inner::put_high(out, at, p.version as u64, 4);
     inner::put_high(out, at + 4, p.sub_build as u64, 2);
-    inner::put_byte(out, at + 6, u8::from(encryption));
+    inner::put_byte(out, at + 6, u8::from(p.encryption));
     inner::put_high(out, at + 7, p.thread_id as u64, 4);
-    inner::put_byte(out, at + 11, truth_byte(mars));
+    inner::put_byte(out, at + 11, u8::from(p.mars));
 }
 
 // The message with FEDAUTHREQUIRED, and without.

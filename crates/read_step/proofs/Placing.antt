@@ -24,7 +24,8 @@ use Rattle.value_kind.proofs.ColumnLaws.{read_kept}
 use Rattle.value_found.specs.Told.{found_behind, room_behind}
 use Rattle.row_place.specs.Told.{Placed, placed_of}
 use Rattle.read_step.specs.Told.{Place}
-use Rattle.read_step.specs.Steps.{in_room, room_count, copied_in, place_behind, FitsAt}
+use Rattle.value_found.specs.Told.{in_room, room_count}
+use Rattle.read_step.specs.Steps.{copied_in, place_behind, FitsAt}
 
 -- what was found says how many bytes were copied out
 module _ (c : D.Column) (at copied : ℕ) where

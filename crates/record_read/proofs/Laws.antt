@@ -1,5 +1,6 @@
 -- The column that bytes of a common form begin with, and its record.
 -- Assumes nothing.
+use Rattle.std.specs.Prelude.{Some}
 use mathlib.Core.Path.{◌≡◌, refl}
 use mathlib.Core.Bool.{true, false}
 use mathlib.Core.List.{List, [], ◌∷◌}
@@ -14,10 +15,6 @@ use Rattle.format.specs.Descriptor.{plain, with_scale, with_sort, read_column}
 use Rattle.format.proofs.DescriptorForm.{type_byte_lem}
 use Rattle.packed.specs.Packed.{record_of}
 use Rattle.record_read.specs.Told.{bare, with_digits, with_text, record_made, IsRead}
-
--- a size of 0 promises nothing
-pub nothing : (s : List ℕ) (ty n : ℕ) → IsRead s (bare 0 ty n)
-nothing s ty n = λ h. absurd (omega (arith, h))
 
 -- ---- what is read
 
@@ -65,19 +62,19 @@ text-read t [] l h k = absurd (omega (arith, l))
 -- ---- its fields
 
 module _ (s : List ℕ) where
-  pub alone_is : (t : FixedLen) → 1 ≤ length s → type_of (get_or s 0 0) ≡ gives (fixed_len t) → IsRead s (bare 1 (get_or s 0 0) 0)
+  pub alone_is : (t : FixedLen) → 1 ≤ length s → type_of (get_or s 0 0) ≡ gives (fixed_len t) → IsRead s (Some (bare 1 (get_or s 0 0) 0))
   unfolding record_made record_of
-  alone_is t l e = λ h. (l, plain (fixed_len t) 0, alone_read t s l e, refl, λ index. rw (type_byte_lem (get_or s 0 0) (fixed_len t) e))
+  alone_is t l e = (l, plain (fixed_len t) 0, alone_read t s l e, refl, λ index. rw (type_byte_lem (get_or s 0 0) (fixed_len t) e))
 
   pub byte_is : (t : ByteLen) → 2 ≤ length s → type_of (get_or s 0 0) ≡ gives (byte_len t) → has_digits (byte_len t) ≡ false →
-      IsRead s (bare 2 (get_or s 0 0) (get_or s 1 0))
+      IsRead s (Some (bare 2 (get_or s 0 0) (get_or s 1 0)))
   unfolding record_made record_of
-  byte_is t l e d = λ h. (l, plain (byte_len t) (get_or s 1 0), byte-read t s l e d, refl, λ index. rw (type_byte_lem (get_or s 0 0) (byte_len t) e))
+  byte_is t l e d = (l, plain (byte_len t) (get_or s 1 0), byte-read t s l e d, refl, λ index. rw (type_byte_lem (get_or s 0 0) (byte_len t) e))
 
   pub digits_is : (t : ByteLen) → 4 ≤ length s → type_of (get_or s 0 0) ≡ gives (byte_len t) → has_digits (byte_len t) ≡ true →
-      IsRead s (with_digits (get_or s 0 0) (get_or s 1 0) (get_or s 2 0) (get_or s 3 0))
+      IsRead s (Some (with_digits (get_or s 0 0) (get_or s 1 0) (get_or s 2 0) (get_or s 3 0)))
   unfolding record_made record_of
-  digits_is t l e d = λ h. (
+  digits_is t l e d = (
     l,
     with_scale (byte_len t) (get_or s 1 0) (get_or s 2 0) (get_or s 3 0),
     digits_read t s l e d,
@@ -86,9 +83,9 @@ module _ (s : List ℕ) where
   )
 
   pub short_is : (t : UShortLen) → 3 ≤ length s → type_of (get_or s 0 0) ≡ gives (u_short_len t) → has_collation (u_short_len t) ≡ false →
-      IsRead s (bare 3 (get_or s 0 0) (low_nat (take 2 (drop 1 s))))
+      IsRead s (Some (bare 3 (get_or s 0 0) (low_nat (take 2 (drop 1 s)))))
   unfolding record_made record_of
-  short_is t l e d = λ h. (
+  short_is t l e d = (
     l,
     plain (u_short_len t) (low_nat (take 2 (drop 1 s))),
     short-read t s l e d,
@@ -97,9 +94,9 @@ module _ (s : List ℕ) where
   )
 
   pub text_is : (t : UShortLen) → 8 ≤ length s → type_of (get_or s 0 0) ≡ gives (u_short_len t) → has_collation (u_short_len t) ≡ true →
-      IsRead s (with_text (get_or s 0 0) (low_nat (take 2 (drop 1 s))) (low_nat (take 4 (drop 3 s))) (get_or s 7 0))
+      IsRead s (Some (with_text (get_or s 0 0) (low_nat (take 2 (drop 1 s))) (low_nat (take 4 (drop 3 s))) (get_or s 7 0)))
   unfolding record_made record_of
-  text_is t l e d = λ h. (
+  text_is t l e d = (
     l,
     with_sort (u_short_len t) (low_nat (take 2 (drop 1 s))) (low_nat (take 4 (drop 3 s))) (get_or s 7 0),
     text-read t s l e d,

@@ -1,5 +1,5 @@
 -- What the fields of a descriptor of a common form promise, and the record that they make.
-use Rattle.std.specs.Prelude.{ℕ, ◌/◌, ◌%◌, ◌<◌, ◌≤◌, ◌≡◌, List, [], ◌∷◌, length, get_or, None}
+use Rattle.std.specs.Prelude.{ℕ, ◌/◌, ◌%◌, ◌≤◌, ◌≡◌, List, [], ◌∷◌, length, get_or, None, Option, Some}
 use Rattle.format.specs.Answer.{took}
 use Rattle.format.specs.Descriptor.{Column, read_column}
 use Rattle.column_form.specs.Form.{IsForm}
@@ -53,9 +53,9 @@ record_made f =
     ∷ low i ∷ low (i / 256) ∷ low (i / 256 / 256) ∷ low (i / 256 / 256 / 256) ∷ f.sort
     ∷ 0 ∷ 0 ∷ 0 ∷ []
 
--- ---- what reading promises: a column without names, of so many bytes, whose record these fields make under any index. 0: nothing
+-- ---- what reading promises: a column without names, of so many bytes, whose record these fields make under any index; or nothing
 
-abbrev pub IsRead : List ℕ → Fields → Type 0
-IsRead s f =
-    0 < f.size →
+abbrev pub IsRead : List ℕ → Option Fields → Type 0
+IsRead s (Some f) =
     (f.size ≤ length s) × (c : Column) × (read_column s ≡ took c f.size) × (c.schema ≡ None) × ((index : ℕ) → record_made f ≡ record_of c index)
+IsRead s None = Unit {0}

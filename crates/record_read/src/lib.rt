@@ -8,8 +8,7 @@ ghost use Rattle.record_read.specs.Told.{low, bare, AloneAt, ByteAt, DigitsAt, S
 
 use column_form::Form;
 
-// What stands in a record but its zeros, and how many bytes the descriptor takes. A size of 0 says that
-// nothing was read: the bytes have none of the forms, or are too few.
+// What stands in a record but its zeros, and how many bytes the descriptor takes.
 #[derive(Clone, Copy)]
 pub struct Fields {
     pub size: usize,
@@ -20,13 +19,6 @@ pub struct Fields {
     pub length: u64,
     pub info: u64,
     pub sort: u8,
-}
-
-// A byte at 64 bits.
-fn wide(b: u8) -> u64
-    ensures { result ≡ b }
-{
-    b as u64
 }
 
 // The lowest byte.
@@ -53,66 +45,66 @@ fn bare(size: usize, ty: u8, length: u64) -> Fields
 }
 
 // The type byte alone.
-fn read_alone(rest: &[u8]) -> Fields
+fn read_alone(rest: &[u8]) -> Option<Fields>
     requires { AloneAt rest.now }
     ensures { IsRead rest.now result }
 {
-    bare(1, rest[0], 0)
+    Some(bare(1, rest[0], 0))
 }
 
 // A length of one byte behind it.
-fn read_byte(rest: &[u8]) -> Fields
+fn read_byte(rest: &[u8]) -> Option<Fields>
     requires { ByteAt rest.now }
     ensures { IsRead rest.now result }
 {
     if rest.len() < 2 {
-        return bare(0, 0, 0);
+        return None;
     }
-    bare(2, rest[0], wide(rest[1]))
+    Some(bare(2, rest[0], u64::from(rest[1])))
 }
 
 // The same, then precision and scale.
-fn read_digits(rest: &[u8]) -> Fields
+fn read_digits(rest: &[u8]) -> Option<Fields>
     requires { DigitsAt rest.now }
     ensures { IsRead rest.now result }
 {
     if rest.len() < 4 {
-        return bare(0, 0, 0);
+        return None;
     }
-    Fields {
+    Some(Fields {
         size: 4,
         ty: rest[0],
         flags: 0,
         precision: rest[2],
         scale: rest[3],
-        length: wide(rest[1]),
+        length: u64::from(rest[1]),
         info: 0,
         sort: 0,
-    }
+    })
 }
 
 // A length of two bytes.
-fn read_short(rest: &[u8]) -> Fields
+fn read_short(rest: &[u8]) -> Option<Fields>
     requires { ShortAt rest.now }
     ensures { IsRead rest.now result }
 {
     if rest.len() < 3 {
-        return bare(0, 0, 0);
+        return None;
     }
-    bare(3, rest[0], wire::inner::low_at(rest, 1, 2))
+    Some(bare(3, rest[0], wire::inner::low_at(rest, 1, 2)))
 }
 
 // The same, then a collation.
-fn read_text(rest: &[u8]) -> Fields
+fn read_text(rest: &[u8]) -> Option<Fields>
     requires { TextAt rest.now }
     ensures { IsRead rest.now result }
 {
     if rest.len() < 8 {
-        return bare(0, 0, 0);
+        return None;
     }
     let length = wire::inner::low_at(rest, 1, 2);
     let info = wire::inner::low_at(rest, 3, 4);
-    Fields {
+    Some(Fields {
         size: 8,
         ty: rest[0],
         flags: 1,
@@ -121,24 +113,24 @@ fn read_text(rest: &[u8]) -> Fields
         length,
         info,
         sort: rest[7],
-    }
+    })
 }
 
-// The descriptor that the rest of the bytes begins with.
-pub fn read_fields(rest: &[u8]) -> Fields
+// The descriptor that the rest of the bytes begins with, if it has one of the forms and all its bytes
+// are there.
+pub fn read_fields(rest: &[u8]) -> Option<Fields>
     ensures { IsRead rest.now result }
 {
     if rest.len() < 1 {
-        return bare(0, 0, 0);
+        return None;
     }
-    let form = column_form::form_of(rest[0]);
-    match form {
+    match column_form::form_of(rest[0]) {
         Form::Alone => read_alone(rest),
         Form::Byte => read_byte(rest),
         Form::Digits => read_digits(rest),
         Form::Short => read_short(rest),
         Form::Text => read_text(rest),
-        Form::Other => bare(0, 0, 0),
+        Form::Other => None,
     }
 }
 

@@ -144,16 +144,13 @@ module _ (r : List ℕ) (l : 16 ≤ length r) (t : TypeId) (e : type_of (get_or 
 -- ---- what a writer of a form leaves
 
 module _ (r out : List ℕ) where
-  pub nothing : Written r out out 0
-  nothing = (λ z. refl, λ h. absurd (omega (arith, h)))
-
-  pub written : (new bytes : List ℕ) (n : ℕ) → length bytes ≡ n → 0 < n → n ≤ length out → ((names : Schema) → write_column (column_of r names) ≡ gives bytes) →
-      new ≡ sets out 0 bytes → Written r out new n
-  written new bytes n e h l is s =
+  pub written : (new bytes : List ℕ) (n : ℕ) → length bytes ≡ n → n ≤ length out → ((names : Schema) → write_column (column_of r names) ≡ gives bytes) →
+      new ≡ sets out 0 bytes → Written r out new (Some n)
+  written new bytes n e l is s =
       let k : length bytes ≤ length out = omega arith in
       let p = has_room bytes out n e k in
       let q : Leaves (gives n) new (gives bytes) out = (p.0, s ∙ (sets-front out bytes k ∙ p.1)) in
-      (λ z. absurd (omega (arith, h, z)), λ h names. subst (λ (a : Answer (List ℕ)). Leaves (gives n) new a out) (sym (is names)) q)
+      λ names. subst (λ (a : Answer (List ℕ)). Leaves (gives n) new a out) (sym (is names)) q
 
 -- ---- stores one behind another are one run of stores
 

@@ -1,5 +1,5 @@
 -- What a record of a common form has, and what writing it promises.
-use Rattle.std.specs.Prelude.{ℕ, ◌<◌, ◌≤◌, ◌≡◌, List, length, get_or, take, drop}
+use Rattle.std.specs.Prelude.{ℕ, ◌<◌, ◌≤◌, ◌≡◌, List, length, get_or, take, drop, None, Option, Some}
 use Rattle.format.specs.Answer.{gives, fitted, wrote, room_after}
 use Rattle.format.specs.Number.{low_nat}
 use Rattle.format.specs.Descriptor.{Schema, write_column}
@@ -58,6 +58,7 @@ Done r out new n =
     (names : Schema) → (gives n ≡ wrote (fitted (write_column (column_of r names)) (length out)))
     × (new ≡ room_after (fitted (write_column (column_of r names)) (length out)) out)
 
--- 0: nothing was written
-abbrev pub Written : List ℕ → List ℕ → List ℕ → ℕ → Type 0
-Written r out new n = (n ≡ 0 → new ≡ out) × (0 < n → Done r out new n)
+-- or nothing was written
+abbrev pub Written : List ℕ → List ℕ → List ℕ → Option ℕ → Type 0
+Written r out new (Some n) = Done r out new n
+Written r out new None = new ≡ out

@@ -13,16 +13,9 @@ fn is_bare(r: &[u8], limit: u64) -> bool
     requires { 16 ≤ length r.now }
     ensures { result ≡ true → IsBare r.now limit }
 {
-    if wire::inner::low_at(r, 1, 3) != 0 {
-        return false;
-    }
-    if wire::inner::low_at(r, 8, 8) != 0 {
-        return false;
-    }
-    if wire::inner::low_at(r, 4, 4) < limit {
-        return true;
-    }
-    false
+    wire::inner::low_at(r, 1, 3) == 0
+        && wire::inner::low_at(r, 8, 8) == 0
+        && wire::inner::low_at(r, 4, 4) < limit
 }
 
 // The same, but that precision and scale are what they are.
@@ -30,16 +23,7 @@ fn is_digits(r: &[u8]) -> bool
     requires { 16 ≤ length r.now }
     ensures { result ≡ true → IsDigits r.now }
 {
-    if r[1] != 0 {
-        return false;
-    }
-    if wire::inner::low_at(r, 8, 8) != 0 {
-        return false;
-    }
-    if wire::inner::low_at(r, 4, 4) < 256 {
-        return true;
-    }
-    false
+    r[1] == 0 && wire::inner::low_at(r, 8, 8) == 0 && wire::inner::low_at(r, 4, 4) < 256
 }
 
 // The flag of a collation and no other, no precision, no scale, nothing behind the collation.
@@ -47,116 +31,108 @@ fn is_text(r: &[u8]) -> bool
     requires { 16 ≤ length r.now }
     ensures { result ≡ true → IsText r.now }
 {
-    if wire::inner::low_at(r, 1, 3) != 1 {
-        return false;
-    }
-    if wire::inner::low_at(r, 13, 3) != 0 {
-        return false;
-    }
-    if wire::inner::low_at(r, 4, 4) < 65536 {
-        return true;
-    }
-    false
+    wire::inner::low_at(r, 1, 3) == 1
+        && wire::inner::low_at(r, 13, 3) == 0
+        && wire::inner::low_at(r, 4, 4) < 65536
 }
 
 // The type byte alone.
-fn write_alone(r: &[u8], out: &mut [u8]) -> usize
+fn write_alone(r: &[u8], out: &mut [u8]) -> Option<usize>
     requires { AloneAt r.now }
     ensures { Written r.now out.old out.new result }
 {
     if out.len() < 1 {
-        return 0;
+        return None;
     }
-    if is_bare(r, 1) {
-        wire::inner::put_byte(out, 0, r[0]);
-        return 1;
+    if !is_bare(r, 1) {
+        return None;
     }
-    0
+    wire::inner::put_byte(out, 0, r[0]);
+    Some(1)
 }
 
 // A length of one byte behind it.
-fn write_byte(r: &[u8], out: &mut [u8]) -> usize
+fn write_byte(r: &[u8], out: &mut [u8]) -> Option<usize>
     requires { ByteAt r.now }
     ensures { Written r.now out.old out.new result }
 {
     if out.len() < 2 {
-        return 0;
+        return None;
     }
-    if is_bare(r, 256) {
-        wire::inner::put_byte(out, 0, r[0]);
-        wire::inner::put_low(out, 1, wire::inner::low_at(r, 4, 4), 1);
-        return 2;
+    if !is_bare(r, 256) {
+        return None;
     }
-    0
+    wire::inner::put_byte(out, 0, r[0]);
+    wire::inner::put_low(out, 1, wire::inner::low_at(r, 4, 4), 1);
+    Some(2)
 }
 
 // The same, then precision and scale.
-fn write_digits(r: &[u8], out: &mut [u8]) -> usize
+fn write_digits(r: &[u8], out: &mut [u8]) -> Option<usize>
     requires { DigitsAt r.now }
     ensures { Written r.now out.old out.new result }
 {
     if out.len() < 4 {
-        return 0;
+        return None;
     }
-    if is_digits(r) {
-        wire::inner::put_byte(out, 0, r[0]);
-        wire::inner::put_low(out, 1, wire::inner::low_at(r, 4, 4), 1);
-        wire::inner::put_byte(out, 2, r[2]);
-        wire::inner::put_byte(out, 3, r[3]);
-        return 4;
+    if !is_digits(r) {
+        return None;
     }
-    0
+    wire::inner::put_byte(out, 0, r[0]);
+    wire::inner::put_low(out, 1, wire::inner::low_at(r, 4, 4), 1);
+    wire::inner::put_byte(out, 2, r[2]);
+    wire::inner::put_byte(out, 3, r[3]);
+    Some(4)
 }
 
 // A length of two bytes.
-fn write_short(r: &[u8], out: &mut [u8]) -> usize
+fn write_short(r: &[u8], out: &mut [u8]) -> Option<usize>
     requires { ShortAt r.now }
     ensures { Written r.now out.old out.new result }
 {
     if out.len() < 3 {
-        return 0;
+        return None;
     }
-    if is_bare(r, 65536) {
-        wire::inner::put_byte(out, 0, r[0]);
-        wire::inner::put_low(out, 1, wire::inner::low_at(r, 4, 4), 2);
-        return 3;
+    if !is_bare(r, 65536) {
+        return None;
     }
-    0
+    wire::inner::put_byte(out, 0, r[0]);
+    wire::inner::put_low(out, 1, wire::inner::low_at(r, 4, 4), 2);
+    Some(3)
 }
 
 // The same, then a collation.
-fn write_text(r: &[u8], out: &mut [u8]) -> usize
+fn write_text(r: &[u8], out: &mut [u8]) -> Option<usize>
     requires { TextAt r.now }
     ensures { Written r.now out.old out.new result }
 {
     if out.len() < 8 {
-        return 0;
+        return None;
     }
-    if is_text(r) {
-        wire::inner::put_byte(out, 0, r[0]);
-        wire::inner::put_low(out, 1, wire::inner::low_at(r, 4, 4), 2);
-        wire::inner::put_low(out, 3, wire::inner::low_at(r, 8, 4), 4);
-        wire::inner::put_byte(out, 7, r[12]);
-        return 8;
+    if !is_text(r) {
+        return None;
     }
-    0
+    wire::inner::put_byte(out, 0, r[0]);
+    wire::inner::put_low(out, 1, wire::inner::low_at(r, 4, 4), 2);
+    wire::inner::put_low(out, 3, wire::inner::low_at(r, 8, 4), 4);
+    wire::inner::put_byte(out, 7, r[12]);
+    Some(8)
 }
 
-// The descriptor at the front of the room, and how many bytes it takes; or 0 and nothing written, where
-// the record has none of the forms, breaks the rule, or the room is too short.
-pub fn write_record(r: &[u8], out: &mut [u8]) -> usize
+// The descriptor at the front of the room, and how many bytes it takes; or nothing, where the record has
+// none of the forms, breaks the rule, or the room is too short.
+pub fn write_record(r: &[u8], out: &mut [u8]) -> Option<usize>
     ensures { Written r.now out.old out.new result }
 {
     if r.len() < 16 {
-        return 0;
+        return None;
     }
-    let form = column_form::form_of(r[0]);
-    match form {
+    match column_form::form_of(r[0]) {
         Form::Alone => write_alone(r, out),
         Form::Byte => write_byte(r, out),
         Form::Digits => write_digits(r, out),
         Form::Short => write_short(r, out),
         Form::Text => write_text(r, out),
-        Form::Other => 0,
+        Form::Other => None,
     }
 }

@@ -4,48 +4,36 @@
 
 use std::io;
 use std::io::Read;
-use wire::{Cursor, Refusal, Width};
 
 // How many bytes the next frame has; none where the input has ended.
-fn next_count(input: &mut impl Read) -> io::Result<Result<(u64, Cursor), Refusal>> {
+fn next_count(input: &mut impl Read) -> io::Result<Option<usize>> {
     let mut head = [0u8; 4];
     let got = words::read_full(input, &mut head)?;
     if got < 4 {
-        return Ok(Err(wire::Refusal::Missing));
+        return Ok(None);
     }
-    Ok(Cursor { at: 0 }.low(&head, Width::Four))
+    Ok(Some(u32::from_le_bytes(head) as usize))
 }
 
-// Reads the frame's bytes and answers them; false where some are missing.
-fn filled(
-    rt: &impl Print,
-    input: &mut impl Read,
-    frame: &mut [u8],
-    room: &mut [u8],
-) -> io::Result<bool> {
-    let got = words::read_full(input, frame)?;
-    if got < frame.len() {
-        return Ok(false);
-    }
-    replay_answer::answer(rt, frame, room)?;
-    Ok(true)
-}
-
-// Reads one frame and answers it; false where there is none.
+// Reads one frame and answers it; false where there is none, or a part of it is missing.
 fn one(
     rt: &impl Print,
     input: &mut impl Read,
     frame: &mut [u8],
     room: &mut [u8],
 ) -> io::Result<bool> {
-    let Ok((count, _)) = next_count(input)? else {
+    let Some(n) = next_count(input)? else {
         return Ok(false);
     };
-    let n = count as usize;
     if frame.len() < n {
         return Ok(false);
     }
-    filled(rt, input, &mut frame[..n], room)
+    let got = words::read_full(input, &mut frame[..n])?;
+    if got < n {
+        return Ok(false);
+    }
+    replay_answer::answer(rt, &frame[..n], room)?;
+    Ok(true)
 }
 
 // A proved loop has to end, and nothing says that an input does: it counts up to a number that

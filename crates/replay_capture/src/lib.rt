@@ -4,7 +4,8 @@
 
 use cursor::Cursor;
 use replay_row_read::say_row;
-use replay_say::{fields, say};
+use replay_say::fields::Fields;
+use replay_say::say;
 use std::io;
 use wire::Width;
 
@@ -17,25 +18,19 @@ fn listed(
     room: &mut [u8],
 ) -> io::Result<()> {
     match capture_columns::read_columns(s, from, count) {
-        Ok(columns) => say_row(
-            rt,
-            columns.list,
-            count,
-            s,
-            Cursor { at: columns.end.at },
-            true,
-            room,
-        ),
-        Err(e) => say::wrote(rt, Err(e.refusal), room),
+        Ok(columns) => {
+            let cols = &columns.list[..count];
+            say_row(rt, cols, cols, s, Cursor { at: columns.end.at }, room)
+        }
+        Err(e) => say::refused(rt, e.refusal, room),
     }
 }
 
-pub fn capture(rt: &impl Print, frame: &[u8], room: &mut [u8]) -> io::Result<()> {
-    let s = fields::rest(frame, 9);
-    let start = wire::Cursor { at: 0 };
-    say::fill(room);
-    match start.low(s, Width::Two) {
+pub fn capture(rt: &impl Print, mut frame: Fields, room: &mut [u8]) -> io::Result<()> {
+    let room = frame.room(room);
+    let s = frame.input();
+    match (wire::Cursor { at: 0 }).low(s, Width::Two) {
         Ok((n, from)) => listed(rt, n as usize, s, from, room),
-        Err(e) => say::wrote(rt, Err(e), room),
+        Err(e) => say::refused(rt, e, room),
     }
 }

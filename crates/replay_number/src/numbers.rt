@@ -1,45 +1,25 @@
 // guid, number.
-use replay_say::{fields, say};
+use replay_say::fields::Fields;
+use replay_say::say;
 use std::io;
 use wire::{Cursor, Guid, Width};
 
 // Sixteen bytes in text order behind the op's number, written in wire order.
-pub fn guid(rt: &impl Print, frame: &[u8]) -> io::Result<()> {
-    let Ok((high, c)) = (Cursor { at: 1 }).high(frame, Width::Eight) else {
+pub fn guid(rt: &impl Print, frame: Fields) -> io::Result<()> {
+    let s = frame.rest();
+    let Ok((high, c)) = (Cursor { at: 0 }).high(s, Width::Eight) else {
         return say::bad(rt);
     };
-    let Ok((low, _)) = c.high(frame, Width::Eight) else {
+    let Ok((low, _)) = c.high(s, Width::Eight) else {
         return say::bad(rt);
     };
     let mut out = [0u8; 16];
     let _ = guid::write_guid(Guid { high, low }, &mut out); // sixteen bytes of room are enough
-    say::ok(rt)?;
-    say::bytes(rt, &out)?;
-    say::end(rt)
+    println!(rt; "ok {}", say::Bytes(&out))
 }
 
-fn width(n: u8) -> Width {
-    match n {
-        1 => Width::One,
-        2 => Width::Two,
-        4 => Width::Four,
-        _ => Width::Eight,
-    }
-}
-
-pub fn number(rt: &impl Print, frame: &[u8]) -> io::Result<()> {
-    let from = fields::place(frame, 1);
-    let w = width(fields::byte(frame, 9));
-    match from.low(fields::rest(frame, 14), w) {
-        Ok((n, c)) => {
-            say::ok(rt)?;
-            say::number(rt, c.at as u64)?;
-            say::number(rt, n)?;
-            say::end(rt)
-        }
-        Err(e) => {
-            say::no(rt, e)?;
-            say::end(rt)
-        }
-    }
+pub fn number(rt: &impl Print, mut frame: Fields) -> io::Result<()> {
+    let from = Cursor { at: frame.place() };
+    let w = Width::try_from(frame.byte()).unwrap_or(Width::Eight);
+    say::read(rt, from.low(frame.input(), w))
 }

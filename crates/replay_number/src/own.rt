@@ -1,26 +1,15 @@
 // The ops that are the project's own: guid_read, self_test.
-use replay_say::{fields, say};
+use replay_say::fields::Fields;
+use replay_say::say;
+use replay_say::say::TextOrder;
 use std::io;
-use wire::{Refusal, Width};
+use wire::{Cursor, Refusal};
 
 // A GUID at a place of the input, said in text order.
-pub fn guid_read(rt: &impl Print, frame: &[u8]) -> io::Result<()> {
-    let from = fields::place(frame, 1);
-    match from.guid(fields::rest(frame, 13)) {
-        Ok((g, c)) => {
-            let mut out = [0u8; 16];
-            wire::inner::put_high(&mut out, 0, g.high, 8);
-            wire::inner::put_high(&mut out, 8, g.low, 8);
-            say::ok(rt)?;
-            say::number(rt, c.at as u64)?;
-            say::bytes(rt, &out)?;
-            say::end(rt)
-        }
-        Err(e) => {
-            say::no(rt, e)?;
-            say::end(rt)
-        }
-    }
+pub fn guid_read(rt: &impl Print, mut frame: Fields) -> io::Result<()> {
+    let from = Cursor { at: frame.place() };
+    let answer = from.guid(frame.input());
+    say::read(rt, answer.map(|(g, next)| (TextOrder(g), next)))
 }
 
 // An answer that no call gave: a count, or the refusal of a number.
@@ -39,19 +28,16 @@ fn made_up(no: u8, count: usize) -> Result<usize, Refusal> {
     }
 }
 
-// A byte at a place of the room; nothing where the room ends before it.
-fn store(room: &mut [u8], at: usize, b: u8) {
-    if room.len() <= at {
-        return;
+// Stores one byte in the full room, nothing where the room ends before it, so that the words of a
+// made-up answer show that it is counted.
+pub fn self_test(rt: &impl Print, mut frame: Fields, room: &mut [u8]) -> io::Result<()> {
+    let room = frame.room(room);
+    let at = frame.four() as usize;
+    let b = frame.byte();
+    if let Some(place) = room.get_mut(at) {
+        *place = b;
     }
-    room[at] = b;
-}
-
-// Stores one byte in the full room, so that the words of a made-up answer show that it is counted.
-pub fn self_test(rt: &impl Print, frame: &[u8], room: &mut [u8]) -> io::Result<()> {
-    let at = fields::low(frame, 5, Width::Four) as usize;
-    say::fill(room);
-    store(room, at, fields::byte(frame, 9));
-    let count = fields::low(frame, 11, Width::Four) as usize;
-    say::wrote(rt, made_up(fields::byte(frame, 10), count), room)
+    let no = frame.byte();
+    let count = frame.four() as usize;
+    say::wrote(rt, made_up(no, count), room)
 }

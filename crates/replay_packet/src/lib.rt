@@ -4,67 +4,63 @@
 
 use header::{Header, PacketStatus, PacketType};
 use prelogin::{Encryption, Prelogin};
-use replay_say::{fields, say};
-use std::io;
-use wire::Width;
+use replay_say::fields::Fields;
+use replay_say::say;
+use std::{fmt, io};
+use wire::Cursor;
 
-pub fn header_read(rt: &impl Print, frame: &[u8]) -> io::Result<()> {
-    let from = fields::place(frame, 1);
-    match header::read_header(fields::rest(frame, 13), from) {
-        Ok((h, c)) => {
-            say::ok(rt)?;
-            say::number(rt, c.at as u64)?;
-            shown(rt, h)?;
-            say::end(rt)
-        }
-        Err(e) => {
-            say::no(rt, e)?;
-            say::end(rt)
-        }
+// The six numbers of a header.
+#[derive(Clone, Copy)]
+struct Words(Header);
+
+impl fmt::Display for Words {
+    fn fmt<W: fmt::Write>(&self, f: &mut fmt::Formatter<W>) -> fmt::Result {
+        let h = self.0;
+        let (ty, status) = (u8::from(h.ty), u8::from(h.status));
+        write!(
+            f,
+            "{ty} {status} {} {} {} {}",
+            h.length, h.spid, h.id, h.window
+        )
     }
 }
 
-fn shown(rt: &impl Print, h: Header) -> io::Result<()> {
-    let ty = h.ty;
-    let status = h.status;
-    say::number(rt, u64::from(u8::from(ty)))?;
-    say::number(rt, u64::from(u8::from(status)))?;
-    say::number(rt, h.length as u64)?;
-    say::number(rt, h.spid as u64)?;
-    say::number(rt, h.id as u64)?;
-    return say::number(rt, h.window as u64)
+pub fn header_read(rt: &impl Print, mut frame: Fields) -> io::Result<()> {
+    let from = Cursor { at: frame.place() };
+    let answer = header::read_header(frame.input(), from);
+    say::read(rt, answer.map(|(h, next)| (Words(h), next)))
 }
 
-pub fn header_write(rt: &impl Print, frame: &[u8], room: &mut [u8]) -> io::Result<()> {
-    let Ok(ty) = PacketType::try_from(fields::byte(frame, 5)) else {
+pub fn header_write(rt: &impl Print, mut frame: Fields, room: &mut [u8]) -> io::Result<()> {
+    let room = frame.room(room);
+    let Ok(ty) = PacketType::try_from(frame.byte()) else {
         return say::bad(rt);
     };
-    let Ok(status) = PacketStatus::try_from(fields::byte(frame, 6)) else {
+    let Ok(status) = PacketStatus::try_from(frame.byte()) else {
         return say::bad(rt);
     };
     let h = Header {
         ty,
         status,
-        length: (fields::low(frame, 7, Width::Two) % 65536) as u16,
-        spid: (fields::low(frame, 9, Width::Two) % 65536) as u16,
-        id: fields::byte(frame, 11),
-        window: fields::byte(frame, 12),
+        length: frame.two(),
+        spid: frame.two(),
+        id: frame.byte(),
+        window: frame.byte(),
     };
-    say::fill(room);
-    let r = header::write_header(h, room);
-    say::wrote(rt, r, room)
+    let answer = header::write_header(h, room);
+    say::wrote(rt, answer, room)
 }
 
-pub fn prelogin_write(rt: &impl Print, frame: &[u8], room: &mut [u8]) -> io::Result<()> {
+pub fn prelogin_write(rt: &impl Print, mut frame: Fields, room: &mut [u8]) -> io::Result<()> {
+    let room = frame.room(room);
     let p = Prelogin {
-        version: (fields::low(frame, 5, Width::Four) % 4294967296) as u32,
-        sub_build: (fields::low(frame, 9, Width::Two) % 65536) as u16,
-        encryption: Encryption::try_from(fields::byte(frame, 11)).unwrap_or(Encryption::Required),
-        thread_id: (fields::low(frame, 12, Width::Four) % 4294967296) as u32,
-        mars: fields::byte(frame, 16) != 0,
-        fed_auth_required: fields::byte(frame, 17) != 0,
+        version: frame.four(),
+        sub_build: frame.two(),
+        encryption: Encryption::try_from(frame.byte()).unwrap_or(Encryption::Required),
+        thread_id: frame.four(),
+        mars: frame.flag(),
+        fed_auth_required: frame.flag(),
     };
-    say::fill(room);
-    let r = prelogin::write_prelogin(p, room);
-    say::wrote(rt, r, room)
+    let answer = prelogin::write_prelogin(p, room);
+    say::wrote(rt, answer, room)
 }

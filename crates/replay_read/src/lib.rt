@@ -3,25 +3,28 @@
 #![tactic(auto)]
 
 use cursor::Cursor;
-use replay_found::{copied, show};
-use replay_say::{fields, say};
+use replay_found::Words;
+use replay_say::fields::Fields;
+use replay_say::say;
+use replay_say::say::Written;
 use std::io;
+use value_found::Found;
+
+// The place behind a value, the value, and what it takes of the room.
+fn say_value(rt: &impl Print, next: Cursor, found: Found, s: &[u8], room: &[u8]) -> io::Result<()> {
+    print!(rt; "ok {} {}", next.at, Words { found, s, room })?;
+    let count = found.copied();
+    println!(rt; " {}", Written { room, count })
+}
 
 // The value of a column at a place of the input.
-pub fn value_read(rt: &impl Print, frame: &[u8], room: &mut [u8]) -> io::Result<()> {
-    let c = replay_type::column(frame, 13);
-    let from = fields::place(frame, 1);
-    let cursor = Cursor { at: from.at };
-    say::fill(room);
-    let s = fields::rest(frame, 83);
+pub fn value_read(rt: &impl Print, mut frame: Fields, room: &mut [u8]) -> io::Result<()> {
+    let cursor = Cursor { at: frame.place() };
+    let room = frame.room(room);
+    let c = replay_type::column(&mut frame);
+    let s = frame.input();
     match cursor.value(c, s, room) {
-        Ok((f, next)) => {
-            say::ok(rt)?;
-            say::number(rt, next.at as u64)?;
-            show(rt, f, s, room)?;
-            say::front(rt, room, copied(f))?;
-            say::end(rt)
-        }
-        Err(e) => say::wrote(rt, Err(e), room),
+        Ok((found, next)) => say_value(rt, next, found, s, room),
+        Err(e) => say::refused(rt, e, room),
     }
 }

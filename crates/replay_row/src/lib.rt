@@ -2,38 +2,32 @@
 
 #![tactic(auto)]
 
+use column_type::TypeId;
 use cursor::Cursor;
-use replay_say::{fields, say};
+use replay_list::PLACES;
+use replay_say::fields::Fields;
+use replay_say::say;
+use replay_say::say::Written;
 use std::io;
+use value_kind::Value;
 
-pub fn row_write(rt: &impl Print, frame: &[u8], room: &mut [u8]) -> io::Result<()> {
-    let second = replay_list::behind_columns(frame, 5);
-    let third = replay_list::behind_values(frame, second);
-    let cols = replay_list::columns(frame, 5);
-    let values = replay_list::values(frame, second);
-    let count = replay_list::count(frame, 5);
-    let given = replay_list::count(frame, second);
-    let buffer = fields::rest(frame, fields::after(third, 4));
-    say::fill(room);
-    let r = held::write_held_row(cols, count, values, given, buffer, room);
-    say::wrote(rt, r, room)
+pub fn row_write(rt: &impl Print, mut frame: Fields, room: &mut [u8]) -> io::Result<()> {
+    let room = frame.room(room);
+    let mut columns = [column_type::plain(TypeId::Udt, 0); PLACES];
+    let cols = replay_list::columns(&mut frame, &mut columns);
+    let mut values = [Value::Null; PLACES];
+    let values = replay_list::values(&mut frame, &mut values);
+    let answer = row_write::write_row(cols, values, frame.input(), room);
+    say::wrote(rt, answer, room)
 }
 
-pub fn normal(rt: &impl Print, frame: &[u8], room: &mut [u8]) -> io::Result<()> {
-    let cols = replay_list::columns(frame, 13);
-    let count = replay_list::count(frame, 13);
-    let behind = replay_list::behind_columns(frame, 13);
-    let s = fields::rest(frame, fields::after(behind, 4));
-    let at = fields::place(frame, 1);
-    let from = Cursor { at: at.at };
-    say::fill(room);
-    match held_normal::normal_held_row(cols, count, s, from, room) {
-        Ok((n, next)) => {
-            say::ok(rt)?;
-            say::number(rt, next.at as u64)?;
-            say::front(rt, room, n)?;
-            say::end(rt)
-        }
-        Err(e) => say::wrote(rt, Err(e), room),
+pub fn normal(rt: &impl Print, mut frame: Fields, room: &mut [u8]) -> io::Result<()> {
+    let from = Cursor { at: frame.place() };
+    let room = frame.room(room);
+    let mut columns = [column_type::plain(TypeId::Udt, 0); PLACES];
+    let cols = replay_list::columns(&mut frame, &mut columns);
+    match row_normal::normal_row(cols, frame.input(), from, room) {
+        Ok((count, next)) => println!(rt; "ok {} {}", next.at, Written { room, count }),
+        Err(e) => say::refused(rt, e, room),
     }
 }

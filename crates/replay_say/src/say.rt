@@ -1,119 +1,96 @@
 // The words of an answer's line.
 ghost use Rattle.std.specs.Prelude.{◌≡◌, length};
-ghost use Rattle.replay_say.specs.Room.{filled, count_of, changed_in};
+ghost use Rattle.replay_say.specs.Room.{filled, changed_in};
 
-use std::io;
-use wire::Refusal;
+use std::{fmt, io};
+use wire::{Cursor, Guid, Refusal};
+use words::Hex;
 
 const FILLER: u8 = 0xA5;
 
-pub fn end(rt: &impl Print) -> io::Result<()> {
-    words::text(rt, b"\n")?;
-    Ok(())
+// A word of bytes, `-` for none.
+#[derive(Clone, Copy)]
+pub struct Bytes<'a>(pub &'a [u8]);
+
+impl fmt::Display for Bytes<'_> {
+    fn fmt<W: fmt::Write>(&self, f: &mut fmt::Formatter<W>) -> fmt::Result {
+        let s = self.0;
+        if s.is_empty() {
+            return f.write_str("-");
+        }
+        write!(f, "{}", Hex(s))
+    }
+}
+
+// A GUID's bytes in text order.
+#[derive(Clone, Copy)]
+pub struct TextOrder(pub Guid);
+
+impl fmt::Display for TextOrder {
+    fn fmt<W: fmt::Write>(&self, f: &mut fmt::Formatter<W>) -> fmt::Result {
+        write!(f, "{:016x}{:016x}", self.0.high, self.0.low)
+    }
+}
+
+// A room behind a call: the bytes at its front that were written, and how many behind them changed.
+#[derive(Clone, Copy)]
+pub struct Written<'a> {
+    pub room: &'a [u8],
+    pub count: usize,
+}
+
+impl fmt::Display for Written<'_> {
+    fn fmt<W: fmt::Write>(&self, f: &mut fmt::Formatter<W>) -> fmt::Result {
+        let count = self.count;
+        match self.room.split_at_checked(count) {
+            Some((front, rest)) => write!(f, "{count} {} changed {}", Bytes(front), changed(rest)),
+            None => write!(f, "{count}"),
+        }
+    }
 }
 
 pub fn bad(rt: &impl Print) -> io::Result<()> {
-    words::text(rt, b"bad\n")?;
-    Ok(())
-}
-
-pub fn ok(rt: &impl Print) -> io::Result<()> {
-    words::text(rt, b"ok")?;
-    Ok(())
-}
-
-// A word as it stands, with the space before it.
-pub fn word(rt: &impl Print, text: &[u8]) -> io::Result<()> {
-    words::text(rt, text)?;
-    Ok(())
-}
-
-// A word that is a number.
-pub fn number(rt: &impl Print, n: u64) -> io::Result<()> {
-    words::text(rt, b" ")?;
-    words::decimal(rt, n)?;
-    Ok(())
-}
-
-// A word that is a whole number, by its bits in two's complement.
-pub fn signed(rt: &impl Print, n: u64, half: u64) -> io::Result<()> {
-    words::text(rt, b" ")?;
-    words::signed(rt, n, half)?;
-    Ok(())
-}
-
-pub fn no(rt: &impl Print, e: Refusal) -> io::Result<()> {
-    words::text(rt, b"no")?;
-    number(rt, u64::from(e.number()))
-}
-
-// A word of bytes, `-` for none.
-pub fn bytes(rt: &impl Print, s: &[u8]) -> io::Result<()> {
-    words::text(rt, b" ")?;
-    if s.len() == 0 {
-        words::text(rt, b"-")?;
-        return Ok(());
-    }
-    words::hex(rt, s)
+    println!(rt; "bad")
 }
 
 // The room before a call.
 pub fn fill(room: &mut [u8])
     ensures { room.new ≡ filled (length room.old) }
 {
-    for i in 0..room.len() {
-        room[i] = FILLER;
-    }
-}
-
-// 1 for a byte that is not the filler.
-fn differs(b: u8) -> u64
-    ensures { result ≡ count_of b }
-{
-    if b == FILLER {
-        return 0;
-    }
-    1
+    room.fill(FILLER);
 }
 
 // How many bytes are not the filler.
-fn changed(room: &[u8]) -> u64
+fn changed(room: &[u8]) -> usize
     ensures { result ≡ changed_in room.now }
 {
-    let mut n: u64 = 0;
-    for b in room {
-        n += differs(*b);
-    }
-    n
+    room.iter().filter(|b| **b != FILLER).count()
 }
 
-fn kept(rt: &impl Print, room: &[u8]) -> io::Result<()> {
-    words::text(rt, b" changed")?;
-    number(rt, changed(room))
+pub fn no(rt: &impl Print, e: Refusal) -> io::Result<()> {
+    println!(rt; "no {}", e.number())
 }
 
-// W bytes at the front of the room, and how many bytes behind them are changed.
-pub fn front(rt: &impl Print, room: &[u8], w: usize) -> io::Result<()> {
-    number(rt, w as u64)?;
-    if room.len() < w {
-        return Ok(());
+// What a read answered: the place behind it and its words, or the refusal.
+pub fn read<T: fmt::Display + Drop>(
+    rt: &impl Print,
+    answer: Result<(T, Cursor), Refusal>,
+) -> io::Result<()> {
+    match answer {
+        Ok((words, next)) => println!(rt; "ok {} {words}", next.at),
+        Err(e) => no(rt, e),
     }
-    bytes(rt, &room[..w])?;
-    kept(rt, &room[w..])
+}
+
+// A refusal by a call that was lent a room.
+pub fn refused(rt: &impl Print, e: Refusal, room: &[u8]) -> io::Result<()> {
+    println!(rt; "no {} changed {}", e.number(), changed(room))
 }
 
 // What a writer answered, and the room that it was lent.
-pub fn wrote(rt: &impl Print, r: Result<usize, Refusal>, room: &[u8]) -> io::Result<()> {
-    match r {
-        Ok(w) => {
-            ok(rt)?;
-            front(rt, room, w)?;
-            end(rt)
-        }
-        Err(e) => {
-            no(rt, e)?;
-            kept(rt, room)?;
-            end(rt)
-        }
+pub fn wrote(rt: &impl Print, answer: Result<usize, Refusal>, room: &[u8]) -> io::Result<()> {
+    match answer {
+        Ok(count) => println!(rt; "ok {}", Written { room, count }),
+        Err(e) => refused(rt, e, room),
     }
 }

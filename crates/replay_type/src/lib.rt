@@ -3,139 +3,109 @@
 #![tactic(auto)]
 
 use column_type::{Collation, Column, Name, Schema, TypeId};
-use replay_say::{fields, say};
-use std::io;
-use wire::Width;
+use replay_say::fields::Fields;
+use replay_say::say;
+use std::{fmt, io};
+use wire::Cursor;
 
-fn name(frame: &[u8], at: usize) -> Name {
+fn name(frame: &mut Fields) -> Name {
     Name {
-        start: fields::low(frame, at, Width::Eight) as usize,
-        units: fields::low(frame, fields::after(at, 8), Width::Eight) as usize,
+        start: frame.place(),
+        units: frame.place(),
     }
 }
 
-fn schema(frame: &[u8], at: usize) -> Option<Schema> {
-    if fields::byte(frame, fields::after(at, 17)) == 0 {
-        return None;
-    }
-    let first = name(frame, fields::after(at, 18));
-    let second = name(frame, fields::after(at, 34));
-    let third = name(frame, fields::after(at, 50));
-    Some(Schema {
-        database: first,
-        owner: second,
-        collection: third,
-    })
+fn schema(frame: &mut Fields) -> Option<Schema> {
+    let given = frame.flag();
+    let schema = Schema {
+        database: name(frame),
+        owner: name(frame),
+        collection: name(frame),
+    };
+    if given { Some(schema) } else { None }
 }
 
-fn collation(frame: &[u8], at: usize) -> Option<Collation> {
-    if fields::byte(frame, fields::after(at, 11)) == 0 {
-        return None;
-    }
-    let info = fields::low(frame, fields::after(at, 12), Width::Four);
-    Some(Collation {
-        info: (info % 4294967296) as u32,
-        sort: fields::byte(frame, fields::after(at, 16)),
-    })
+fn collation(frame: &mut Fields) -> Option<Collation> {
+    let given = frame.flag();
+    let collation = Collation {
+        info: frame.four(),
+        sort: frame.byte(),
+    };
+    if given { Some(collation) } else { None }
 }
 
-fn type_id(frame: &[u8], at: usize) -> TypeId {
-    match column_byte::type_of(fields::byte(frame, at)) {
-        Some(t) => t,
-        None => TypeId::Udt,
-    }
-}
-
-// The column whose 66 bytes stand at a place of the frame.
-pub fn column(frame: &[u8], at: usize) -> Column {
-    let ty = type_id(frame, at);
-    let collation = collation(frame, at);
-    let schema = schema(frame, at);
+// The column that a frame has next.
+pub fn column(frame: &mut Fields) -> Column {
     Column {
-        ty,
-        length: fields::low(frame, fields::after(at, 1), Width::Eight),
-        precision: fields::byte(frame, fields::after(at, 9)),
-        scale: fields::byte(frame, fields::after(at, 10)),
-        collation,
-        schema,
+        ty: TypeId::try_from(frame.byte()).unwrap_or(TypeId::Udt),
+        length: frame.eight(),
+        precision: frame.byte(),
+        scale: frame.byte(),
+        collation: collation(frame),
+        schema: schema(frame),
     }
 }
 
-fn show_name(rt: &impl Print, n: Name) -> io::Result<()> {
-    say::number(rt, n.start as u64)?;
-    say::number(rt, n.units as u64)
-}
+#[derive(Clone, Copy)]
+struct NameWords(Name);
 
-fn show_schema(rt: &impl Print, s: Option<Schema>) -> io::Result<()> {
-    match s {
-        Some(
-            Schema {
-                database: a,
-                owner: b,
-                collection: c,
-            },
-        ) => {
-            say::number(rt, 1)?;
-            show_name(rt, a)?;
-            show_name(rt, b)?;
-            show_name(rt, c)
-        }
-        None => {
-            let none = Name { start: 0, units: 0 };
-            say::number(rt, 0)?;
-            show_name(rt, none)?;
-            show_name(rt, none)?;
-            show_name(rt, none)
-        }
+impl fmt::Display for NameWords {
+    fn fmt<W: fmt::Write>(&self, f: &mut fmt::Formatter<W>) -> fmt::Result {
+        write!(f, "{} {}", self.0.start, self.0.units)
     }
 }
 
-fn show_collation(rt: &impl Print, c: Option<Collation>) -> io::Result<()> {
-    match c {
-        Some(Collation { info, sort }) => {
-            say::number(rt, 1)?;
-            say::number(rt, info as u64)?;
-            say::number(rt, sort as u64)
-        }
-        None => {
-            say::number(rt, 0)?;
-            say::number(rt, 0)?;
-            say::number(rt, 0)
-        }
+#[derive(Clone, Copy)]
+struct SchemaWords(Option<Schema>);
+
+impl fmt::Display for SchemaWords {
+    fn fmt<W: fmt::Write>(&self, f: &mut fmt::Formatter<W>) -> fmt::Result {
+        let Some(s) = self.0 else {
+            return f.write_str("0 0 0 0 0 0 0");
+        };
+        let (database, owner) = (NameWords(s.database), NameWords(s.owner));
+        write!(f, "1 {database} {owner} {}", NameWords(s.collection))
+    }
+}
+
+#[derive(Clone, Copy)]
+struct CollationWords(Option<Collation>);
+
+impl fmt::Display for CollationWords {
+    fn fmt<W: fmt::Write>(&self, f: &mut fmt::Formatter<W>) -> fmt::Result {
+        let Some(c) = self.0 else {
+            return f.write_str("0 0 0");
+        };
+        write!(f, "1 {} {}", c.info, c.sort)
     }
 }
 
 // The fourteen numbers of a column.
-pub fn show(rt: &impl Print, c: Column) -> io::Result<()> {
-    let ty = c.ty;
-    let collation = c.collation;
-    let schema = c.schema;
-    say::number(rt, column_byte::type_byte(ty) as u64)?;
-    say::number(rt, c.length)?;
-    say::number(rt, c.precision as u64)?;
-    say::number(rt, c.scale as u64)?;
-    show_collation(rt, collation)?;
-    show_schema(rt, schema)
-}
+#[derive(Clone, Copy)]
+pub struct Words(pub Column);
 
-pub fn type_read(rt: &impl Print, frame: &[u8]) -> io::Result<()> {
-    let from = fields::place(frame, 1);
-    match column_read::read_column(fields::rest(frame, 13), from) {
-        Ok((c, next)) => {
-            say::ok(rt)?;
-            say::number(rt, next.at as u64)?;
-            show(rt, c)?;
-            say::end(rt)
-        }
-        Err(e) => {
-            say::no(rt, e)?;
-            say::end(rt)
-        }
+impl fmt::Display for Words {
+    fn fmt<W: fmt::Write>(&self, f: &mut fmt::Formatter<W>) -> fmt::Result {
+        let c = self.0;
+        let ty = u8::from(c.ty);
+        let (collation, schema) = (CollationWords(c.collation), SchemaWords(c.schema));
+        write!(
+            f,
+            "{ty} {} {} {} {collation} {schema}",
+            c.length, c.precision, c.scale
+        )
     }
 }
 
-pub fn type_write(rt: &impl Print, frame: &[u8], room: &mut [u8]) -> io::Result<()> {
-    say::fill(room);
-    let r = column_write::write_column(column(frame, 5), fields::rest(frame, 75), room);
-    say::wrote(rt, r, room)
+pub fn type_read(rt: &impl Print, mut frame: Fields) -> io::Result<()> {
+    let from = Cursor { at: frame.place() };
+    let answer = column_read::read_column(frame.input(), from);
+    say::read(rt, answer.map(|(c, next)| (Words(c), next)))
+}
+
+pub fn type_write(rt: &impl Print, mut frame: Fields, room: &mut [u8]) -> io::Result<()> {
+    let room = frame.room(room);
+    let c = column(&mut frame);
+    let answer = column_write::write_column(c, frame.input(), room);
+    say::wrote(rt, answer, room)
 }

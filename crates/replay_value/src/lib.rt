@@ -2,70 +2,63 @@
 
 #![tactic(auto)]
 
-use bits::float;
-use replay_say::{fields, say};
+use bits::float::{Float32, Float64};
+use replay_say::fields::Fields;
+use replay_say::say;
 use std::io;
 use value_kind::{Scalar, Span, Value};
-use wire::{Cursor, Guid, Width};
+use wire::Guid;
 
-fn high(frame: &[u8], at: usize) -> u64 {
-    match (Cursor { at }).high(frame, Width::Eight) {
-        Ok((n, _)) => n,
-        Err(_) => 0,
-    }
-}
-
-fn span(frame: &[u8], at: usize) -> Span {
+// A part of the input by its two numbers.
+fn span(start: [u8; 8], count: [u8; 8]) -> Span {
     Span {
-        start: fields::low(frame, at, Width::Eight) as usize,
-        count: fields::low(frame, fields::after(at, 8), Width::Eight) as usize,
+        start: usize::from_le_bytes(start),
+        count: usize::from_le_bytes(count),
     }
 }
 
-// A number of 64 bits in two's complement, cut to the kind's width.
-fn number(kind: u8, n: u64) -> Scalar {
+// A value of a fixed width by its number, cut to the kind's width.
+fn scalar(kind: u8, number: [u8; 8]) -> Scalar {
+    let [a, b, c, d, ..] = number;
     match kind {
-        1 => Scalar::Bit(n != 0),
-        2 => Scalar::U8((n % 256) as u8),
-        3 => Scalar::I16(bits::signed::to_i16((n % 65536) as u16)),
-        4 => Scalar::I32(bits::signed::to_i32((n % 4294967296) as u32)),
-        5 => Scalar::I64(bits::signed::to_i64(n)),
-        6 => Scalar::from(float::from_bits32((n % 4294967296) as u32)),
-        _ => Scalar::from(float::from_bits64(n)),
+        1 => Scalar::Bit(u64::from_le_bytes(number) != 0),
+        2 => Scalar::U8(a),
+        3 => Scalar::I16(i16::from_le_bytes([a, b])),
+        4 => Scalar::I32(i32::from_le_bytes([a, b, c, d])),
+        5 => Scalar::I64(i64::from_le_bytes(number)),
+        6 => Scalar::from(Float32::from(u32::from_le_bytes([a, b, c, d]))),
+        _ => Scalar::from(Float64::from(u64::from_le_bytes(number))),
     }
 }
 
-// The value whose 17 bytes stand at a place of the frame.
-pub fn value(frame: &[u8], at: usize) -> Value {
-    let kind = fields::byte(frame, at);
-    let from = fields::after(at, 1);
+// The value that a frame has next: its kind, and sixteen bytes by the kind.
+pub fn value(frame: &mut Fields) -> Value {
+    let kind = frame.byte();
+    let first = frame.bytes();
+    let second = frame.bytes();
     match kind {
         0 => Value::Null,
-        8 => {
-            let first = high(frame, from);
-            let last = high(frame, fields::after(at, 9));
-            Value::Scalar(Scalar::Guid(Guid {
-                high: first,
-                low: last,
-            }))
-        }
-        9 => Value::Binary(span(frame, from)),
-        10 => Value::String(span(frame, from)),
-        _ => Value::Scalar(number(kind, fields::low(frame, from, Width::Eight))),
+        8 => Value::Scalar(Scalar::Guid(Guid {
+            high: u64::from_be_bytes(first),
+            low: u64::from_be_bytes(second),
+        })),
+        9 => Value::Binary(span(first, second)),
+        10 => Value::String(span(first, second)),
+        _ => Value::Scalar(scalar(kind, first)),
     }
 }
 
-pub fn value_write(rt: &impl Print, frame: &[u8], room: &mut [u8]) -> io::Result<()> {
-    let c = replay_type::column(frame, 5);
-    let v = value(frame, 71);
-    say::fill(room);
-    let r = value_write::write_value(c, v, fields::rest(frame, 92), room);
-    say::wrote(rt, r, room)
+pub fn value_write(rt: &impl Print, mut frame: Fields, room: &mut [u8]) -> io::Result<()> {
+    let room = frame.room(room);
+    let c = replay_type::column(&mut frame);
+    let v = value(&mut frame);
+    let answer = value_write::write_value(c, v, frame.input(), room);
+    say::wrote(rt, answer, room)
 }
 
-pub fn untyped_write(rt: &impl Print, frame: &[u8], room: &mut [u8]) -> io::Result<()> {
-    let v = value(frame, 5);
-    say::fill(room);
-    let r = untyped_write::write_untyped(v, fields::rest(frame, 26), room);
-    say::wrote(rt, r, room)
+pub fn untyped_write(rt: &impl Print, mut frame: Fields, room: &mut [u8]) -> io::Result<()> {
+    let room = frame.room(room);
+    let v = value(&mut frame);
+    let answer = untyped_write::write_untyped(v, frame.input(), room);
+    say::wrote(rt, answer, room)
 }

@@ -10,7 +10,6 @@ ghost use Rattle.columns.specs.Told.{columns_told};
 ghost use Rattle.judge_step.specs.Told.{needs_of, row_judged_told};
 
 use column_type::Column;
-use columns::inner;
 use cursor::Cursor;
 use judge_step::{RowNeeds, inner as turn};
 use wire::Refusal;
@@ -19,11 +18,9 @@ use wire::Refusal;
 pub fn judge_row(cols: &[Column], s: &[u8], cursor: Cursor) -> Result<RowNeeds, Refusal>
     ensures { (b : List ℕ) → row_judged_told result ≡ map_read (needs_of (columns_told b cols.now)) (read_at (read_row (columns_told b cols.now)) s.now cursor.at) }
 {
-    let mut state = turn::start(cols.len(), s.len(), cursor);
-    let n = turn::turns(state, cols.len());
-    for i in 0..n {
-        let c = inner::column_at(cols, i);
-        state = turn::judge_on(c, s, state);
+    let mut row = turn::start(cols.len(), s.len(), cursor)?;
+    for c in cols {
+        row = turn::judge_on(*c, s, row)?;
     }
-    state
+    Ok(row)
 }

@@ -10,7 +10,6 @@ ghost use Rattle.columns.specs.Told.{columns_told};
 ghost use Rattle.normal_step.specs.Told.{normal_told};
 
 use column_type::Column;
-use columns::inner;
 use cursor::Cursor;
 use normal_step::inner as turn;
 use value_normal::inner as value;
@@ -26,14 +25,14 @@ pub fn normal_row(
     ensures answer { (b : List ℕ) → normal_told result ≡ map_read length (fitted_read (λ (bytes : List ℕ). bytes) (read_at (normal (columns_told b cols.now)) s.now cursor.at) (length out.old)) }
     ensures room { (b : List ℕ) → out.new ≡ room_after_read (λ (bytes : List ℕ). bytes) (fitted_read (λ (bytes : List ℕ). bytes) (read_at (normal (columns_told b cols.now)) s.now cursor.at) (length out.old)) out.old }
 {
-    let judged = row_judge::judge_row(cols, s, cursor);
-    let fits = turn::fit_in(judged, out.len());
-    let n = turn::turns(fits, cols.len());
-    let mut run = turn::open_run(fits, cursor);
-    for i in 0..n {
-        let c = inner::column_at(cols, i);
-        run = turn::normal_on(out, c, s, run);
+    let row = row_judge::judge_row(cols, s, cursor)?;
+    if out.len() < row.normal {
+        return Err(Refusal::Room);
+    }
+    let mut run = turn::open_run(cursor);
+    for c in cols {
+        run = turn::normal_on(out, *c, s, run);
     }
     value::close_run(out, s, run);
-    fits
+    Ok((row.normal, row.next))
 }

@@ -11,8 +11,8 @@ ghost use Rattle.row_place.specs.Told.{row_value_told, CanonicalPlaced, placed_b
 use crate::RowPlace;
 use cursor::Cursor;
 use value_found::{Found, Stand, inner};
+use value_kind::Span;
 use value_kind::family::{ContentKind, Family};
-use value_kind::{Span, family, kinds};
 use value_look::Seen;
 use wire::Refusal;
 
@@ -45,7 +45,7 @@ fn plp_value(
     ensures told { (c : D.Column) → is_plp c ≡ true → row_value_told result ≡ placed_behind c (plp_value (content_kind_told k) rest.now) at copied }
     ensures canonical { CanonicalPlaced result }
 {
-    match plp_join::judge_plp(rest, family::is_text(k))? {
+    match plp_join::judge_plp(rest, k.is_text())? {
         None => placed(Found::Null, at + 8, copied),
         Some((count, end)) => {
             if MOST_ROOM - copied < count {
@@ -79,7 +79,7 @@ pub fn find_in(
         Seen::Null(n) => placed(Found::Null, at + n, copied),
         Seen::Scalar(k, from) => {
             let v = scalar_read::inner::scalar_at(k, rest, from);
-            placed(Found::Scalar(v), at + (from + kinds::bytes_of(k)), copied)
+            placed(Found::Scalar(v), at + (from + k.bytes()), copied)
         },
         Seen::Part(k, start, count) => {
             let found = inner::content_found(

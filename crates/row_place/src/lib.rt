@@ -11,7 +11,7 @@ ghost use Rattle.row_place.specs.Told.{row_value_told, CanonicalPlaced, placed_a
 use column_type::Column;
 use cursor::Cursor;
 use value_found::Found;
-use value_kind::family;
+use value_kind::family::Family;
 use wire::Refusal;
 
 // Where the next value stands in the input, and how many content bytes were copied out before it.
@@ -34,13 +34,7 @@ impl RowPlace {
         }
         if column_rule::keeps_rule(c) {
             let ty = c.ty;
-            return inner::find_in(
-                family::family_of(ty),
-                c.length as u32,
-                &s[at..],
-                at,
-                self.copied,
-            );
+            return inner::find_in(Family::from(ty), c.length as u32, &s[at..], at, self.copied);
         }
         Err(Refusal::Rule)
     }

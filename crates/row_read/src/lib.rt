@@ -10,7 +10,6 @@ ghost use Rattle.columns.specs.Told.{columns_told};
 ghost use Rattle.read_step.specs.Told.{first_place, row_read_told};
 
 use column_type::Column;
-use columns::inner;
 use cursor::Cursor;
 use read_step::inner as turn;
 use row_place::RowPlace;
@@ -27,13 +26,16 @@ pub fn read_row(
     ensures told { (b : List ℕ) → row_read_told result ≡ map_read (λ vs. first_place cursor.at) (fitted_read (copied_out_row (columns_told b cols.now)) (read_at (read_row (columns_told b cols.now)) s.now cursor.at) (length out.old)) }
     ensures room { (b : List ℕ) → out.new ≡ room_after_read (copied_out_row (columns_told b cols.now)) (fitted_read (copied_out_row (columns_told b cols.now)) (read_at (read_row (columns_told b cols.now)) s.now cursor.at) (length out.old)) out.old }
 {
-    let judged = row_judge::judge_row(cols, s, cursor);
-    let fits = turn::fit_in(judged, out.len());
-    let n = turn::turns(fits, cols.len());
-    let mut place = turn::first(cursor);
-    for i in 0..n {
-        let c = inner::column_at(cols, i);
-        place = turn::join_on(out, c, s, place);
+    let row = row_judge::judge_row(cols, s, cursor)?;
+    if out.len() < row.joined {
+        return Err(Refusal::Room);
     }
-    turn::answer(fits, cursor)
+    let first = turn::first(cursor);
+    if row.joined != 0 {
+        let mut place = first;
+        for c in cols {
+            place = turn::join_on(out, *c, s, place);
+        }
+    }
+    Ok((first, row.next))
 }

@@ -9,7 +9,6 @@ ghost use Rattle.wire.specs.Told.{answer_told};
 ghost use Rattle.columns.specs.Told.{columns_told, values_told};
 
 use column_type::Column;
-use columns::inner;
 use row_step::inner as turn;
 use value_kind::Value;
 use wire::Refusal;
@@ -18,12 +17,9 @@ use wire::Refusal;
 pub fn row_size(cols: &[Column], values: &[Value], buffer: &[u8]) -> Result<usize, Refusal>
     ensures { answer_told result ≡ wrote (write_row (columns_told buffer.now cols.now) (values_told buffer.now values.now)) }
 {
-    let mut s = turn::start(cols.len(), values.len());
-    let n = turn::turns(s, cols.len());
-    for i in 0..n {
-        let c = inner::column_at(cols, i);
-        let v = inner::value_at(values, i);
-        s = turn::size_on(c, v, buffer, s);
+    let mut sum = turn::start(cols.len(), values.len())?;
+    for (c, v) in cols.iter().zip(values) {
+        sum = turn::size_on(*c, *v, buffer, sum)?;
     }
-    s
+    Ok(sum)
 }

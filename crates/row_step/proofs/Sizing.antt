@@ -1,17 +1,18 @@
 -- The size pass of a row, turn by turn: what is left of the columns and values gives, behind the size so far, what all of them give.
--- Why it holds: `write_values` takes a column and a value from the left at each turn as the pass does, and a refused sum stays refused; the counts were judged
--- before the first turn. The size so far is that of as many values as turns, so it stays below the bound of 1,024 of them.
+-- Why it holds: `write_values` takes a column and a value from the left at each turn as the pass does, and both end at the first refusal; the counts were
+-- judged before the first turn. The size so far is that of as many values as turns, so it stays below the bound of 1,024 of them.
 -- Assumes nothing.
 use mathlib.Core.Path.{◌≡◌, refl, sym, ap, ◌∙◌}
 use mathlib.Core.Bool.{Bool, true, false, not}
 use mathlib.Core.List.{List, []}
-use Prim.Native.Nat.{ℕ, ◌+◌, ◌<◌, ◌≤◌}
+use Prim.Native.Nat.{ℕ, ◌+◌, ◌*◌, ◌<◌, ◌≤◌}
 use native.Mathlib.Omega.{arith}
 use native.Mathlib.Nat.{add-zero, zero-add, add_assoc}
 use lib.ListN.{length, get_or, drop, length-map, length-append}
 use lib.Dec.{ltb, eqb}
 use borrow.Author.Tests.{ltb-false, eqb-true, not-false}
 use Rattle.format.specs.Answer.{Answer, Refusal, gives, refuses, rule, refuse_if, and_then, wrote}
+use Rattle.format.specs.Descriptor as D
 use Rattle.format.specs.Value.{write_value}
 use Rattle.format.specs.Row.{max_columns, join_two, write_values, write_row}
 use Rattle.format.proofs.Answer.{no_gives, passed}
@@ -21,26 +22,20 @@ use Rattle.value_kind.specs.declared.Value.{Value}
 use Rattle.value_kind.specs.Told.{value_told}
 use Rattle.columns.specs.None.{no_column, no_value}
 use Rattle.columns.specs.Told.{columns_told, values_told}
-use Rattle.row_step.specs.Steps.{start_of, turns_of, size_on, most_of, Below}
+use Rattle.row_step.specs.Steps.{start_of, size_on, most_of}
 use Rattle.row_step.proofs.Most.{most}
 use Rattle.columns.proofs.Taken.{left_at, none_left}
 
 -- ---- sums of sizes
 
 -- a value, and the others behind it
-on_more : (s : Answer ℕ) (a b : Answer (List ℕ)) → size_on s (and_then a (join_two b)) ≡ size_on (size_on s a) b
-on_more (gives at) (gives x) (gives y) = ap gives (ap (λ (k : ℕ). at + k) (length-append x y) ∙ sym (add_assoc at (length x) (length y)))
-on_more (gives at) (gives x) (refuses e) = refl
-on_more (gives at) (refuses e) b = refl
-on_more (refuses e) a b = refl
-
--- no value more
-on_none : (s : Answer ℕ) → size_on s (gives []) ≡ s
-on_none (gives at) = ap gives (add-zero at)
-on_none (refuses e) = refl
+on_more : (at : ℕ) (a b : Answer (List ℕ)) → size_on at (and_then a (join_two b)) ≡ and_then (size_on at a) (λ (k : ℕ). size_on k b)
+on_more at (gives x) (gives y) = ap gives (ap (λ (k : ℕ). at + k) (length-append x y) ∙ sym (add_assoc at (length x) (length y)))
+on_more at (gives x) (refuses e) = refl
+on_more at (refuses e) b = refl
 
 -- from nothing
-on_first : (a : Answer (List ℕ)) → size_on (gives 0) a ≡ wrote a
+on_first : (a : Answer (List ℕ)) → size_on 0 a ≡ wrote a
 unfolding wrote
 on_first (gives x) = ap gives (zero-add (length x))
 on_first (refuses e) = refl
@@ -99,55 +94,41 @@ module _ (buffer : List ℕ) (ys : List Column) (zs : List Value) where
 
   -- ---- the turns
 
-  -- what is known at a turn, by what was found of the counts
-  abbrev pub Sized : Answer ℕ → ℕ → Answer ℕ → Type 0
-  Sized (gives k) i s = (size_on s (left i) ≡ wrote all) × Below i s
-  Sized (refuses e) i s = s ≡ refuses e
+  -- what is known at a turn: the sum so far, with the sizes of what is left, is the row's size
+  abbrev pub Sized : ℕ → ℕ → Type 0
+  Sized i at = (size_on at (left i) ≡ wrote all) × (at ≤ i * most_of)
 
-  pub sizing_begins : (b : Answer ℕ) → start_of n m ≡ b → Sized b 0 b
-  sizing_begins (gives k) h =
+  -- and where a value's size was found, or refused
+  abbrev pub SizedOn : ℕ → Answer ℕ → Type 0
+  SizedOn i (gives at) = Sized i at
+  SizedOn i (refuses e) = refuses e ≡ wrote all
+
+  pub sizing_begins : (k : ℕ) → start_of n m ≡ gives k → Sized 0 k
+  sizing_begins k h =
       let e = (counted k h).2 in
-      (rw e (on_first all), rw e (omega arith))
-  sizing_begins (refuses e) h = refl
+      (rw e (on_first all), omega (arith, e))
 
-  -- a turn has a column, a value, and a number below 1,024
-  pub inside : (b : Answer ℕ) (i : ℕ) → start_of n m ≡ b → i < turns_of b n → (i < n) × (i < m) × (i < 1024)
-  inside (gives k) i h l =
-      let c = counted k h in
-      (l, omega (arith, l, c.1), omega (arith, l, c.0))
-  inside (refuses e) i h l = absurd (omega (arith, l))
+  -- a sum is small enough to be added to
+  pub sizing_asks : (k i at : ℕ) → start_of n m ≡ gives k → i < n → Sized i at → at ≤ 1024 * most_of
+  sizing_asks k i at h l z = omega (arith, (counted k h).0, l, z.1)
 
-  -- there are no more turns than columns
-  pub turns_most : (b : Answer ℕ) → turns_of b n ≤ n
-  turns_most (gives k) = omega arith
-  turns_most (refuses e) = omega arith
+  sizing_goes : (i at : ℕ) → i < n → i < m → Sized i at → SizedOn (i + 1) (size_on at (here i))
+  sizing_goes i at l k z = go (here i) refl
+    where
+      d : D.Column
+      d = column_told buffer (get_or ys i no_column)
 
-  below_all : (i : ℕ) (s : Answer ℕ) → i < 1024 → Below i s → Below 1024 s
-  below_all i (gives at) l h = omega (arith, l, h)
-  below_all i (refuses e) l h = tt
+      whole : and_then (size_on at (here i)) (λ (x : ℕ). size_on x (left (i + 1))) ≡ wrote all
+      whole = sym (on_more at (here i) (left (i + 1))) ∙ ap (size_on at) (sym (more i l k)) ∙ z.0
 
-  pub sizing_asks : (b : Answer ℕ) (i : ℕ) (s : Answer ℕ) → start_of n m ≡ b → i < turns_of b n → Sized b i s → Below 1024 s
-  sizing_asks (gives k) i s h l z = below_all i s (inside (gives k) i h l).2 z.1
-  sizing_asks (refuses e) i s h l z = absurd (omega (arith, l))
-
-  below_more : (i : ℕ) (s : Answer ℕ) (a : Answer (List ℕ)) → ((x : List ℕ) → a ≡ gives x → length x ≤ most_of) → Below i s → Below (i + 1) (size_on s a)
-  below_more i (gives at) (gives x) f h = omega (arith, f x refl, h)
-  below_more i (gives at) (refuses e) f h = tt
-  below_more i (refuses e) a f h = tt
-
-  pub sizing_goes : (b : Answer ℕ) (i : ℕ) (s : Answer ℕ) → start_of n m ≡ b → i < turns_of b n → Sized b i s → Sized b (i + 1) (size_on s (here i))
-  sizing_goes (gives k) i s h l z =
-      let c = inside (gives k) i h l in
-      let d = column_told buffer (get_or ys i no_column) in (
-        sym (on_more s (here i) (left (i + 1))) ∙ ap (size_on s) (sym (more i c.0 c.1)) ∙ z.0,
-        below_more i s (here i) (most buffer d (get_or zs i no_value)) z.1,
-      )
-  sizing_goes (refuses e) i s h l z = absurd (omega (arith, l))
+      go : (a : Answer (List ℕ)) → here i ≡ a → SizedOn (i + 1) (size_on at a)
+      go (gives x) e = (rw e at whole, omega (arith, most buffer d (get_or zs i no_value) x e, z.1))
+      go (refuses r) e = rw e at whole
 
   -- the same of what a step answers
-  pub sizing_next : (b : Answer ℕ) (i : ℕ) (s r : Answer ℕ) (c : Column) (v : Value) → start_of n m ≡ b → i < turns_of b n → Sized b i s →
-      c ≡ get_or ys i no_column → v ≡ get_or zs i no_value → r ≡ size_on s (write_value (column_told buffer c) (value_told buffer v)) → Sized b (i + 1) r
-  sizing_next b i s r c v h l z e f q = rw (q, e, f) (sizing_goes b i s h l z)
+  pub sizing_next : (i at : ℕ) (r : Answer ℕ) (c : Column) (v : Value) → i < n → i < m → Sized i at →
+      c ≡ get_or ys i no_column → v ≡ get_or zs i no_value → r ≡ size_on at (write_value (column_told buffer c) (value_told buffer v)) → SizedOn (i + 1) r
+  sizing_next i at r c v l k z e f q = rw (q, e, f) (sizing_goes i at l k z)
 
   -- none is left
   pub none : left n ≡ gives []
@@ -155,7 +136,13 @@ module _ (buffer : List ℕ) (ys : List Column) (zs : List Value) where
   none = rw (none_left ys)
 
   -- behind the last turn
-  pub sizing_ends : (b : Answer ℕ) (s : Answer ℕ) → start_of n m ≡ b → Sized b (turns_of b n) s → s ≡ wrote asked
+  pub sizing_ends : (k at : ℕ) → start_of n m ≡ gives k → Sized n at → gives at ≡ wrote asked
+  sizing_ends k at h z = ap gives (sym (add-zero at)) ∙ ap (size_on at) (sym none) ∙ z.0 ∙ ap wrote (sym (counted k h).3)
+
+  -- at a value that was refused, and at counts that were
+  pub sizing_refused : (k : ℕ) (e : Refusal) → start_of n m ≡ gives k → refuses e ≡ wrote all → refuses e ≡ wrote asked
+  sizing_refused k e h q = q ∙ ap wrote (sym (counted k h).3)
+
+  pub start_refused : (e : Refusal) → start_of n m ≡ refuses e → refuses e ≡ wrote asked
   unfolding wrote
-  sizing_ends (gives k) s h z = sym (on_none s) ∙ ap (size_on s) (sym none) ∙ z.0 ∙ ap wrote (sym (counted k h).3)
-  sizing_ends (refuses e) s h z = z ∙ sym (ap wrote (uncounted e h))
+  start_refused e h = sym (ap wrote (uncounted e h))

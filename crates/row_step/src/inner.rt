@@ -1,18 +1,19 @@
 // The steps of both passes, for the crates of this repository, each on one column and one value by
 // value.
-ghost use Rattle.std.specs.Prelude.{◌≡◌, ◌+◌, length};
+ghost use Rattle.std.specs.Prelude.{◌≡◌, ◌+◌, ◌*◌, ◌≤◌, length};
 ghost use Rattle.lists.specs.Put.{put_at};
 ghost use Rattle.format.specs.Value.{write_value};
 ghost use Rattle.wire.specs.Told.{answer_told};
 ghost use Rattle.column_type.specs.Told.{column_told};
 ghost use Rattle.value_kind.specs.Told.{value_told};
-ghost use Rattle.row_step.specs.Steps.{start_of, turns_of, size_on, fit_in, Below, FitsAt, bytes_in};
+ghost use Rattle.row_step.specs.Steps.{start_of, size_on, most_of, FitsAt, bytes_in};
 
 use column_type::Column;
 use value_kind::Value;
 use wire::Refusal;
 
-// The number of columns, and as many values.
+// The sum before the first value: nothing, if the number of columns is let through and there are as
+// many values.
 pub fn start(columns: usize, values: usize) -> Result<usize, Refusal>
     ensures { answer_told result ≡ start_of columns values }
 {
@@ -25,40 +26,13 @@ pub fn start(columns: usize, values: usize) -> Result<usize, Refusal>
     Ok(0)
 }
 
-// How many turns a pass has: none where the row was refused before it.
-pub fn turns(s: Result<usize, Refusal>, columns: usize) -> usize
-    ensures { result ≡ turns_of (answer_told s) columns }
+// One value's size more, behind a sum of values' sizes.
+pub fn size_on(c: Column, v: Value, buffer: &[u8], sum: usize) -> Result<usize, Refusal>
+    requires { sum ≤ 1024 * most_of }
+    ensures { answer_told result ≡ size_on sum (write_value (column_told buffer.now c) (value_told buffer.now v)) }
 {
-    match s {
-        Ok(_) => columns,
-        Err(_) => 0,
-    }
-}
-
-// One value's size more. A refused row stays refused.
-pub fn size_on(
-    c: Column,
-    v: Value,
-    buffer: &[u8],
-    s: Result<usize, Refusal>,
-) -> Result<usize, Refusal>
-    requires { Below 1024 (answer_told s) }
-    ensures { answer_told result ≡ size_on (answer_told s) (write_value (column_told buffer.now c) (value_told buffer.now v)) }
-{
-    let at = s?;
     let n = value_write::value_size(c, v, buffer)?;
-    Ok(at + n)
-}
-
-// Between the passes: is there room for the row?
-pub fn fit_in(size: Result<usize, Refusal>, room: usize) -> Result<usize, Refusal>
-    ensures { answer_told result ≡ fit_in (answer_told size) room }
-{
-    let n = size?;
-    if room < n {
-        return Err(Refusal::Room);
-    }
-    Ok(n)
+    Ok(sum + n)
 }
 
 // One value more, into the unused rest of the room. It hands back the next unused place.

@@ -9,7 +9,6 @@ ghost use Rattle.wire.specs.Told.{answer_told};
 ghost use Rattle.columns.specs.Told.{columns_told, values_told};
 
 use column_type::Column;
-use columns::inner;
 use row_step::inner as turn;
 use value_kind::Value;
 use wire::Refusal;
@@ -24,14 +23,13 @@ pub fn write_row(
     ensures answer { answer_told result ≡ wrote (fitted (write_row (columns_told buffer.now cols.now) (values_told buffer.now values.now)) (length out.old)) }
     ensures room { out.new ≡ room_after (fitted (write_row (columns_told buffer.now cols.now) (values_told buffer.now values.now)) (length out.old)) out.old }
 {
-    let size = row_size::row_size(cols, values, buffer);
-    let fits = turn::fit_in(size, out.len());
-    let n = turn::turns(fits, cols.len());
-    let mut at: usize = 0;
-    for i in 0..n {
-        let c = inner::column_at(cols, i);
-        let v = inner::value_at(values, i);
-        at = turn::fill_on(out, c, v, buffer, at);
+    let size = row_size::row_size(cols, values, buffer)?;
+    if out.len() < size {
+        return Err(Refusal::Room);
     }
-    fits
+    let mut at: usize = 0;
+    for (c, v) in cols.iter().zip(values) {
+        at = turn::fill_on(out, *c, *v, buffer, at);
+    }
+    Ok(size)
 }

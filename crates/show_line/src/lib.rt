@@ -4,45 +4,37 @@
 
 pub mod refused;
 
+use arrayvec::ArrayString;
 use column_type::Column;
+use std::fmt::Write;
 use std::io;
+use words::Hex;
 
-// How wide the number of a column and its type are printed.
-const NUMBER_WIDTH: usize = 6;
-
-const TYPE_WIDTH: usize = 20;
+// No name of a type is longer: "uniqueidentifier", and a number of at most 20 digits in brackets.
+const LONGEST_NAME: usize = 38;
 
 pub fn say_head(rt: &impl Print) -> io::Result<()> {
-    words::text(rt, b"column  type                  value\n")?;
-    Ok(())
+    println!(rt; "column  type                  value")
 }
 
 // The number of a column, from 1 on, and its type.
 pub fn say_column(rt: &impl Print, i: usize, c: Column) -> io::Result<()> {
-    let number = words::both(i, 1) as u64;
-    words::times(rt, b" ", words::above(NUMBER_WIDTH, words::places(number)))?;
-    words::decimal(rt, number)?;
-    words::text(rt, b"  ")?;
-    let letters = show_type::say_type(rt, c)?;
-    words::times(rt, b" ", words::above(TYPE_WIDTH, letters))?;
-    words::text(rt, b"  ")?;
-    Ok(())
+    let mut name = ArrayString::<LONGEST_NAME>::new();
+    write!(name, "{}", show_type::type_name(c))?;
+    print!(rt; "{:>6}  {:<20}  ", i.saturating_add(1), name.as_str())
 }
 
 // Where the row ends, and how many bytes follow it.
 pub fn say_end(rt: &impl Print, next: usize, length: usize) -> io::Result<()> {
-    words::text(rt, b"The row ends at byte ")?;
-    words::decimal(rt, next as u64)?;
-    words::text(rt, b"; ")?;
-    words::decimal(rt, words::above(length, next) as u64)?;
-    words::text(rt, b" bytes follow it.\n")?;
-    Ok(())
+    let behind = length.saturating_sub(next);
+    println!(rt; "The row ends at byte {next}; {behind} bytes follow it.")
 }
 
-// The normal form: its length, then its bytes.
+// The normal form: its length, then its bytes, 32 in a line.
 pub fn say_normal(rt: &impl Print, s: &[u8]) -> io::Result<()> {
-    words::text(rt, b"Normal form, ")?;
-    words::decimal(rt, s.len() as u64)?;
-    words::text(rt, b" bytes:\n")?;
-    words::hex_lines(rt, s)
+    println!(rt; "Normal form, {} bytes:", s.len())?;
+    for part in s.chunks(32) {
+        println!(rt; "  {}", Hex(part))?;
+    }
+    Ok(())
 }

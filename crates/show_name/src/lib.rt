@@ -1,104 +1,89 @@
-// The names of types as people write them: one name, or one with numbers in brackets. Each call prints
-// it, and answers how many letters it took.
+// The names of types as people write them: one name, or one with numbers in brackets.
 
 #![tactic(auto)]
 
 use column_type::{FixedLen, LongLen};
-use std::io;
+use std::fmt;
 
-// A type with a number in brackets.
-pub fn sized(rt: &impl Print, name: &[u8], n: u64) -> io::Result<usize> {
-    let a = words::both(words::text(rt, name)?, words::text(rt, b"(")?);
-    let b = words::both(words::decimal(rt, n)?, words::text(rt, b")")?);
-    Ok(words::both(a, b))
+#[derive(Clone, Copy)]
+pub enum TypeName {
+    Plain(&'static str),
+    // A type with a number in brackets.
+    Sized(&'static str, u64),
+    // A type with precision and scale.
+    Exact(&'static str, u8, u8),
+    // A type of letters whose bytes are no whole number of them.
+    Odd(&'static str, u64),
+    // A type of content that has no bound of its own.
+    Unbounded(&'static str),
 }
 
-// A type with precision and scale.
-pub fn exact(rt: &impl Print, name: &[u8], precision: u8, scale: u8) -> io::Result<usize> {
-    let a = words::both(words::text(rt, name)?, words::text(rt, b"(")?);
-    let b = words::both(
-        words::decimal(rt, precision as u64)?,
-        words::text(rt, b",")?,
-    );
-    let c = words::both(words::decimal(rt, scale as u64)?, words::text(rt, b")")?);
-    Ok(words::both(a, words::both(b, c)))
-}
-
-// A type of letters whose bytes are no whole number of them.
-pub fn odd(rt: &impl Print, name: &[u8], n: u64) -> io::Result<usize> {
-    let a = words::both(words::text(rt, name)?, words::text(rt, b"(")?);
-    let b = words::both(words::decimal(rt, n)?, words::text(rt, b" bytes)")?);
-    Ok(words::both(a, b))
-}
-
-// A type of content that has no bound of its own.
-pub fn unbounded(rt: &impl Print, name: &[u8]) -> io::Result<usize> {
-    Ok(words::both(words::text(rt, name)?, words::text(rt, b"(max)")?))
-}
-
-pub fn fixed(rt: &impl Print, t: FixedLen) -> io::Result<usize> {
-    match t {
-        FixedLen::Null => words::text(rt, b"null"),
-        FixedLen::Int1 => words::text(rt, b"tinyint"),
-        FixedLen::Bit => words::text(rt, b"bit"),
-        FixedLen::Int2 => words::text(rt, b"smallint"),
-        FixedLen::Int4 => words::text(rt, b"int"),
-        FixedLen::Datetime4 => words::text(rt, b"smalldatetime"),
-        FixedLen::Float4 => words::text(rt, b"real"),
-        FixedLen::Money => words::text(rt, b"money"),
-        FixedLen::Datetime => words::text(rt, b"datetime"),
-        FixedLen::Float8 => words::text(rt, b"float(53)"),
-        FixedLen::Money4 => words::text(rt, b"smallmoney"),
-        FixedLen::Int8 => words::text(rt, b"bigint"),
+impl fmt::Display for TypeName {
+    fn fmt<W: fmt::Write>(&self, f: &mut fmt::Formatter<W>) -> fmt::Result {
+        match *self {
+            TypeName::Plain(name) => f.write_str(name),
+            TypeName::Sized(name, n) => write!(f, "{name}({n})"),
+            TypeName::Exact(name, precision, scale) => write!(f, "{name}({precision},{scale})"),
+            TypeName::Odd(name, n) => write!(f, "{name}({n} bytes)"),
+            TypeName::Unbounded(name) => write!(f, "{name}(max)"),
+        }
     }
 }
 
-pub fn long(rt: &impl Print, t: LongLen) -> io::Result<usize> {
-    match t {
-        LongLen::Image => words::text(rt, b"image"),
-        LongLen::Text => words::text(rt, b"text"),
-        LongLen::NText => words::text(rt, b"ntext"),
-    }
+pub fn fixed(t: FixedLen) -> TypeName {
+    TypeName::Plain(match t {
+        FixedLen::Null => "null",
+        FixedLen::Int1 => "tinyint",
+        FixedLen::Bit => "bit",
+        FixedLen::Int2 => "smallint",
+        FixedLen::Int4 => "int",
+        FixedLen::Datetime4 => "smalldatetime",
+        FixedLen::Float4 => "real",
+        FixedLen::Money => "money",
+        FixedLen::Datetime => "datetime",
+        FixedLen::Float8 => "float(53)",
+        FixedLen::Money4 => "smallmoney",
+        FixedLen::Int8 => "bigint",
+    })
+}
+
+pub fn long(t: LongLen) -> TypeName {
+    TypeName::Plain(match t {
+        LongLen::Image => "image",
+        LongLen::Text => "text",
+        LongLen::NText => "ntext",
+    })
 }
 
 // An integer type by its declared length.
-pub fn integer(rt: &impl Print, n: u64) -> io::Result<usize> {
-    if n == 1 {
-        return words::text(rt, b"tinyint");
+pub fn integer(n: u64) -> TypeName {
+    match n {
+        1 => TypeName::Plain("tinyint"),
+        2 => TypeName::Plain("smallint"),
+        4 => TypeName::Plain("int"),
+        8 => TypeName::Plain("bigint"),
+        _ => TypeName::Sized("intn", n),
     }
-    if n == 2 {
-        return words::text(rt, b"smallint");
-    }
-    if n == 4 {
-        return words::text(rt, b"int");
-    }
-    if n == 8 {
-        return words::text(rt, b"bigint");
-    }
-    sized(rt, b"intn", n)
 }
 
 // A type that has one name at 4 bytes and another at 8.
 pub fn four_eight(
-    rt: &impl Print,
     n: u64,
-    four: &[u8],
-    eight: &[u8],
-    other: &[u8],
-) -> io::Result<usize> {
-    if n == 4 {
-        return words::text(rt, four);
+    four: &'static str,
+    eight: &'static str,
+    other: &'static str,
+) -> TypeName {
+    match n {
+        4 => TypeName::Plain(four),
+        8 => TypeName::Plain(eight),
+        _ => TypeName::Sized(other, n),
     }
-    if n == 8 {
-        return words::text(rt, eight);
-    }
-    sized(rt, other, n)
 }
 
 // A type that has one length.
-pub fn only(rt: &impl Print, n: u64, one: u64, name: &[u8]) -> io::Result<usize> {
+pub fn only(n: u64, one: u64, name: &'static str) -> TypeName {
     if n == one {
-        return words::text(rt, name);
+        return TypeName::Plain(name);
     }
-    sized(rt, name, n)
+    TypeName::Sized(name, n)
 }

@@ -12,25 +12,20 @@ use wire::Refusal;
 // The values of a row that was read, a line for each.
 pub fn show_values(
     rt: &impl Print,
-    cols: [Column; 1024],
-    count: usize,
+    cols: &[Column],
     s: &[u8],
     first: RowPlace,
     joined: &[u8],
     room: &mut [u8],
 ) -> io::Result<()> {
     let mut place = first;
-    for i in 0..count {
-        if 1023 < i {
-            return Ok(());
-        }
-        let c = cols[i];
-        let Ok((found, next)) = place.value(c, s) else {
+    for (i, c) in cols.iter().enumerate() {
+        let Ok((found, next)) = place.value(*c, s) else {
             return Ok(());
         };
-        show_line::say_column(rt, i, c)?;
+        show_line::say_column(rt, i, *c)?;
         show_value::say_found(rt, found, s, joined, room)?;
-        words::text(rt, b"\n")?;
+        println!(rt)?;
         place = next;
     }
     Ok(())
@@ -40,20 +35,15 @@ pub fn show_values(
 pub fn show_stop(
     rt: &impl Print,
     e: Refusal,
-    cols: [Column; 1024],
-    count: usize,
+    cols: &[Column],
     s: &[u8],
     cursor: Cursor,
 ) -> io::Result<()> {
     refused::say_refusal(rt, e)?;
     let mut place = RowPlace { cursor, copied: 0 };
-    for i in 0..count {
-        if 1023 < i {
-            return Ok(());
-        }
-        let c = cols[i];
-        let Ok((_, next)) = place.value(c, s) else {
-            return refused::say_value(rt, i, c, place.cursor.at);
+    for (i, c) in cols.iter().enumerate() {
+        let Ok((_, next)) = place.value(*c, s) else {
+            return refused::say_value(rt, i, *c, place.cursor.at);
         };
         place = next;
     }

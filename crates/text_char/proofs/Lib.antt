@@ -1,4 +1,6 @@
 pub mod Places
 pub mod Units
+pub mod Sizes
 pub mod Stores
+pub mod Forms
 pub mod Turns

@@ -8,6 +8,7 @@ use native.Mathlib.Omega.{arith}
 use native.Mathlib.Numerals.{add-one}
 use lib.ListN.{length, get_or, drop, drop_of_length-le}
 use lib.Seq.{drop-cons}
+use Rattle.std.specs.Prelude.{Option, Some, None}
 use Rattle.format.specs.Answer.{took, stops, not_text}
 use Rattle.format.specs.Text.{between, well_formed, second8, tail8, char8}
 use Rattle.format.specs.Text as T
@@ -15,8 +16,9 @@ use Rattle.format.proofs.Answer.{no_truth}
 use Rattle.format.proofs.Characters.{less, in_between}
 use Rattle.format.proofs.Utf8.{first_ascii}
 use Rattle.text_char.specs.Told.{stands_in}
-use Rattle.text_lead.specs.Told.{chosen, none, lead_in}
-use Rattle.text_lead.proofs.Rows.{lead_row, lead_none}
+use Rattle.text_lead.specs.Told.{Led, lead_in, lead_told, row_told}
+use Rattle.text_lead.specs.declared.Row.{Row}
+use Rattle.text_lead.proofs.Rows.{led, lead_row, lead_none}
 
 module _ (s : List ℕ) (at : ℕ) where
   -- the byte at a place, and what stands behind it
@@ -67,20 +69,24 @@ module _ (s : List ℕ) (at : ℕ) where
         ap (tail8 (suc m) n k) (drop_next h.0) ∙ rw b
 
   -- the first byte
-  pub char8-end : length s ≤ at → stops not_text ≡ char8 (drop at s)
+  pub char8_end : length s ≤ at → stops not_text ≡ char8 (drop at s)
   unfolding char8
-  char8-end h = rw (drop_of_length-le s h)
+  char8_end h = rw (drop_of_length-le s h)
 
   module _ (h : at < length s) where
     pub char8_ascii : get_or s at 0 < 0x80 → took (get_or s at 0) 1 ≡ char8 (drop at s)
     char8_ascii k = sym (ap char8 (drop_next h) ∙ first_ascii (get_or s at 0) (drop (at + 1) s) k)
 
-    pub char8-row : (r : T.Row) → 0x80 ≤ get_or s at 0 → lead_in well_formed (get_or s at 0) ≡ chosen r →
-        second8 r (get_or s at 0) (drop (at + 1) s) ≡ char8 (drop at s)
-    char8-row r k e = sym (ap char8 (drop_next h) ∙ lead_row (get_or s at 0) (drop (at + 1) s) r k e)
+    -- by the row that it chose, or none
+    module _ (o : Option Row) (e : lead_told o ≡ lead_in well_formed (get_or s at 0)) (k : 0x80 ≤ get_or s at 0) where
+      pub char8_row : (r : Row) → o ≡ Some r → second8 (row_told r) (get_or s at 0) (drop (at + 1) s) ≡ char8 (drop at s)
+      char8_row r i = sym (ap char8 (drop_next h) ∙ lead_row (get_or s at 0) (drop (at + 1) s) (row_told r) k (sym e ∙ ap lead_told i))
 
-    pub char8_none : 0x80 ≤ get_or s at 0 → lead_in well_formed (get_or s at 0) ≡ none → stops not_text ≡ char8 (drop at s)
-    char8_none k e = sym (ap char8 (drop_next h) ∙ lead_none (get_or s at 0) (drop (at + 1) s) k e)
+      pub char8_none : o ≡ None → stops not_text ≡ char8 (drop at s)
+      char8_none i = sym (ap char8 (drop_next h) ∙ lead_none (get_or s at 0) (drop (at + 1) s) k (sym e ∙ ap lead_told i))
+
+pub row_fits : (a : ℕ) (o : Option Row) (r : Row) → lead_told o ≡ lead_in well_formed a → o ≡ Some r → Led a (row_told r)
+row_fits a o r e i = led a (row_told r) (sym e ∙ ap lead_told i)
 
 -- ---- the bytes behind the first, by the row that it chose
 
@@ -114,3 +120,8 @@ module _ (s : List ℕ) (at a x : ℕ) (r : T.Row) (e : x ≡ get_or s at 0 - 0x
     pub rest_four : (z : ℕ) → z ≡ get_or s (at + 2) 0 - 0x80 → r.more ≡ 2 → stands_in 0x80 0xBF (drop (at + 2) s) ≡ true →
         took ((second * 64 + y) * 64 + z) 4 ≡ second8 r a (drop at s)
     rest_four z k o l = sym (third_is 1 o ∙ (tail_is s (at + 2) 0 (second * 64 + y) 3 l ∙ rw k))
+
+-- what the checks of the rest of a character need
+pub ruleset rest8 = (stands_true, second_not, rest_two, third_not, rest_three, fourth_not, rest_four)
+
+pub ruleset first8 = (char8_end, char8_ascii, char8_row, char8_none, row_fits)

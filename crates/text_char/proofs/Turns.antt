@@ -10,11 +10,11 @@ use lib.Seq.{drop-drop}
 use Rattle.lists.specs.Put.{put_at, front}
 use Rattle.lists.proofs.Front.{front-end, room_more, grown}
 use Rattle.format.specs.Answer.{Answer, gives, refuses, Refusal, Read, took, stops, and_then, wrote}
-use Rattle.format.specs.Text.{char8, utf8, char16, utf16, scalars, spelled}
+use Rattle.format.specs.Text.{scalars, spelled}
 use Rattle.format.proofs.Answer.{no_gives}
 use Rattle.format.proofs.Number.{Bytes}
-use Rattle.format.proofs.Characters.{converted, converted_took, converted_stops, scalar-last, taking}
-use Rattle.format.proofs.Text.{form8, form16, utf16-short, utf8-short}
+use Rattle.format.proofs.Characters.{Form, converted, converted_took, converted_stops, scalar-last, taking}
+use Rattle.text_char.specs.Told.{fewest}
 
 -- ---- a character at a place
 
@@ -25,28 +25,18 @@ pub record Stands (char : List ℕ → Read ℕ) (s : List ℕ) (at c k : ℕ) :
   pub inside : at + k ≤ length s
   pub is : took c k ≡ char (drop at s)
 
--- what was read in UTF-8, and how long it is in UTF-16LE
-module _ {s : List ℕ} {at c k : ℕ} where
-  pub stands8 : at < length s → took c k ≡ char8 (drop at s) → Stands char8 s at c k
-  stands8 h e =
-      let t = taking form8 (drop at s) c k tt (sym e) in
+-- what was read by a form's reader: it stands there, is no number above the last scalar value, and in no form takes more than twice the bytes
+module _ {char : List ℕ → Read ℕ} {spell : ℕ → List ℕ} (form : Form char spell Bytes) {s : List ℕ} (b : Bytes s) {at c k : ℕ} where
+  pub stands : at < length s → took c k ≡ char (drop at s) → Stands char s at c k
+  stands h e =
+      let t = taking form (drop at s) c k (form.rest at s b) (sym e) in
       record { begins = h; some = t.0; inside = omega (arith, t.1, length-drop at s); is = e }
 
-  pub long8 : Stands char8 s at c k → length (utf16 c) ≤ 2 * k
-  long8 r = omega (arith, (form8.forth (drop at s) c k tt (sym r.is)).2, utf16-short c)
+  pub last : Stands char s at c k → c ≤ 0x10FFFF
+  last r = scalar-last c (form.forth (drop at s) c k (form.rest at s b) (sym r.is)).0
 
-  -- what was read in UTF-16LE, how long it is in UTF-8, and that it is no number above the last scalar value
-  module _ (b : Bytes s) where
-    pub stands16 : at < length s → took c k ≡ char16 (drop at s) → Stands char16 s at c k
-    stands16 h e =
-        let t = taking form16 (drop at s) c k (form16.rest at s b) (sym e) in
-        record { begins = h; some = t.0; inside = omega (arith, t.1, length-drop at s); is = e }
-
-    pub long16 : Stands char16 s at c k → 2 * length (utf8 c) ≤ 3 * k
-    long16 r = omega (arith, (form16.forth (drop at s) c k (form16.rest at s b) (sym r.is)).2, utf8-short c)
-
-    pub last16 : Stands char16 s at c k → c ≤ 0x10FFFF
-    last16 r = scalar-last c (form16.forth (drop at s) c k (form16.rest at s b) (sym r.is)).0
+  pub long : (to : ℕ → List ℕ) → fewest c ≤ length (spell c) → length (to c) ≤ 2 * fewest c → Stands char s at c k → length (to c) ≤ 2 * k
+  long to few most r = omega (arith, (form.forth (drop at s) c k (form.rest at s b) (sym r.is)).2)
 
 -- ---- a count, and what an answer has behind it
 

@@ -1,6 +1,7 @@
 -- What this crate's declared types tell, in the words of `format`.
 use Rattle.std.specs.Prelude.{Err, Ok, Result}
-use Rattle.std.specs.Prelude.{ℕ, List, [], ◌∷◌, Bool, false}
+use Rattle.std.specs.Prelude.{ℕ, List, [], ◌∷◌, Bool, false, ltb}
+use Rattle.lists.specs.Pick.{pick}
 use Rattle.format.specs.Answer.{Read, took, stops}
 use Rattle.format.specs.Text.{between}
 use Rattle.wire.specs.Told.{refusal_told}
@@ -15,3 +16,7 @@ char_told (Err e) = stops (refusal_told e)
 abbrev pub stands_in : ℕ → ℕ → List ℕ → Bool
 stands_in low high [] = false
 stands_in low high (b ∷ s) = between low high b
+
+-- the fewest bytes that a scalar value takes in any form; the most are twice as many
+abbrev pub fewest : ℕ → ℕ
+fewest c = pick (ltb c 0x80) 1 2

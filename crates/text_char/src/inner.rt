@@ -6,7 +6,8 @@ ghost use Rattle.text_char.specs.Told.{char_told};
 ghost use Rattle.text_lead.specs.Told.{row_told, Led};
 
 use crate::utf8;
-use text_lead::{Row, within};
+use crate::utf16::{HIGH, LAST_LOW, LOW, PAIRED};
+use text_lead::Row;
 use wire::Refusal;
 
 // The six low bits of a byte from 80 up to BF.
@@ -18,6 +19,7 @@ fn six_at(s: &[u8], at: usize) -> u32
 }
 
 // The rest of a character from its second byte on, behind the first byte a.
+#[tactic(auto, using(crate::proofs::Places::rest8))]
 pub fn rest8_at(s: &[u8], at: usize, a: u32, row: Row) -> Result<(u32, usize), Refusal>
     requires { Led a (row_told row) }
     ensures { char_told result ≡ second8 (row_told row) a (drop at s.now) }
@@ -58,9 +60,8 @@ pub fn pair_at(s: &[u8], at: usize, a: u32) -> Result<(u32, usize), Refusal>
     if s.len() - at < 2 {
         return Err(Refusal::NotText);
     }
-    let b = unit_at(s, at);
-    if within(0xDC00, 0xDFFF, b) {
-        return Ok((0x10000 + (a - 0xD800) * 1024 + (b - 0xDC00), 4));
+    match unit_at(s, at) {
+        b @ LOW..=LAST_LOW => Ok((PAIRED + (a - HIGH) * 1024 + (b - LOW), 4)),
+        _ => Err(Refusal::NotText),
     }
-    Err(Refusal::NotText)
 }

@@ -5,5 +5,3 @@
 mod inner;
 pub mod utf16;
 pub mod utf8;
-
-use wire::Refusal;

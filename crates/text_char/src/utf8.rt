@@ -11,13 +11,12 @@ use wire::Refusal;
 pub fn stands(s: &[u8], at: usize, low: u32, high: u32) -> bool
     ensures { result ≡ stands_in low high (drop at s.now) }
 {
-    if s.len() <= at {
-        return false;
-    }
-    within(low, high, s[at] as u32)
+    at < s.len() && within(low, high, s[at] as u32)
 }
 
-// The character at a place.
+// The character at a place. A pass calls it for each character: as a call it would cost as much again.
+#[inline(always)]
+#[tactic(auto, using(crate::proofs::Places::first8))]
 pub fn char8_at(s: &[u8], at: usize) -> Result<(u32, usize), Refusal>
     ensures { char_told result ≡ char8 (drop at s.now) }
 {
@@ -28,25 +27,21 @@ pub fn char8_at(s: &[u8], at: usize) -> Result<(u32, usize), Refusal>
     if a < 0x80 {
         return Ok((a, 1));
     }
-    let row = text_lead::row_of(a);
-    match row {
-        Some(r) => inner::rest8_at(s, at + 1, a, r),
-        None => Err(Refusal::NotText),
-    }
+    let Some(row) = text_lead::row_of(a) else {
+        return Err(Refusal::NotText);
+    };
+    inner::rest8_at(s, at + 1, a, row)
 }
 
 // How many bytes a scalar value takes.
+#[tactic(auto, using(crate::proofs::Sizes::sizes))]
 pub fn size8(c: u32) -> usize
     ensures { result ≡ length (utf8 c) }
 {
-    if c < 0x80 {
-        return 1;
+    match c {
+        0..=0x7F => 1,
+        0x80..=0x7FF => 2,
+        0x800..=0xFFFF => 3,
+        _ => 4,
     }
-    if c < 0x800 {
-        return 2;
-    }
-    if c < 0x10000 {
-        return 3;
-    }
-    4
 }

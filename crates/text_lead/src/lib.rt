@@ -21,10 +21,7 @@ pub struct Row {
 pub fn within(low: u32, high: u32, n: u32) -> bool
     ensures { result ≡ between low high n }
 {
-    if n < low {
-        return false;
-    }
-    n <= high
+    low <= n && n <= high
 }
 
 // A row with these numbers.

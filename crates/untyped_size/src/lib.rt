@@ -14,7 +14,7 @@ ghost use Rattle.value_kind.specs.Form.{given_of, short_up_to, untyped_head, unt
 
 use content_size::content;
 use value_kind::family::ContentKind;
-use value_kind::{Span, Value, kinds};
+use value_kind::{Span, Value};
 use wire::{Refusal, marks};
 
 // The declared length of short content, and up to how many bytes content is short: binary as it is,
@@ -24,26 +24,17 @@ const UNTYPED_LENGTH: u32 = 8000;
 const UNTYPED_BINARY: usize = 8000;
 
 const UNTYPED_STRING: usize = 4000;
+
 // How many bytes PLP content may have without a type.
 const UNTYPED_BOUND: u32 = 2147483647;
-
-// Is a count within a limit?
-fn at_most(count: usize, limit: usize) -> bool
-    ensures { result ≡ leb count limit }
-{
-    if limit < count {
-        return false;
-    }
-    true
-}
 
 // Is content of so many bytes, as they were lent, written in the short form without a type?
 pub fn is_short(k: ContentKind, count: usize) -> bool
     ensures { result ≡ leb count (short_up_to (content_kind_told k)) }
 {
     match k {
-        ContentKind::Binary => at_most(count, UNTYPED_BINARY),
-        ContentKind::String => at_most(count, UNTYPED_STRING),
+        ContentKind::Binary => count <= UNTYPED_BINARY,
+        ContentKind::String => count <= UNTYPED_STRING,
     }
 }
 
@@ -51,10 +42,12 @@ pub fn is_short(k: ContentKind, count: usize) -> bool
 pub fn untyped_length(short: bool) -> u64
     ensures { result ≡ pick short untyped_length plp_mark }
 {
-    if short {
-        return UNTYPED_LENGTH as u64;
-    }
-    marks::PLP_MARK as u64
+    let length = if short {
+        UNTYPED_LENGTH
+    } else {
+        marks::PLP_MARK
+    };
+    u64::from(length)
 }
 
 // How many bytes of descriptor stand in front of content without a type.
@@ -71,10 +64,7 @@ pub fn untyped_head(k: ContentKind) -> u8
 fn untyped_limit(short: bool) -> u32
     ensures { result ≡ untyped_limit short }
 {
-    if short {
-        return UNTYPED_LENGTH;
-    }
-    UNTYPED_BOUND
+    if short { UNTYPED_LENGTH } else { UNTYPED_BOUND }
 }
 
 // Content with its own descriptor in front: the form goes by the bytes as they were lent.
@@ -91,7 +81,7 @@ pub fn untyped_size(v: Value, buffer: &[u8]) -> Result<usize, Refusal>
 {
     match v {
         Value::Null => Ok(1),
-        Value::Scalar(s) => Ok(3 + kinds::bytes_of(kinds::kind_of(s))),
+        Value::Scalar(s) => Ok(3 + s.kind().bytes()),
         Value::Binary(p) => untyped_content(ContentKind::Binary, p, buffer),
         Value::String(p) => untyped_content(ContentKind::String, p, buffer),
     }

@@ -9,16 +9,16 @@ ghost use Rattle.value_kind.specs.Form.{given_of, untyped_head};
 
 use column_type::{FixedLen, UShortLen};
 use value_kind::family::ContentKind;
-use value_kind::{Scalar, Span, Value, kinds};
+use value_kind::{Scalar, Span, Value};
 
 // A value of a fixed width behind its type byte and its length, which is its width.
 fn fill_untyped_scalar(s: Scalar, out: &mut [u8])
     requires { gives (length out.old) ≡ wrote (write_untyped (Given.scalar (scalar_told s))) }
     ensures { gives out.new ≡ write_untyped (Given.scalar (scalar_told s)) }
 {
-    let k = kinds::kind_of(s);
-    let n = kinds::bytes_of(k) as u8;
-    wire::inner::put_byte(out, 0, column_byte::byte_len_byte(kinds::untyped_type(k)));
+    let k = s.kind();
+    let n = k.bytes() as u8;
+    wire::inner::put_byte(out, 0, u8::from(k.untyped_type()));
     wire::inner::put_byte(out, 1, n);
     wire::inner::put_byte(out, 2, n);
     value_fill::inner::put_scalar(out, 3, s);
@@ -32,11 +32,11 @@ fn write_head(k: ContentKind, short: bool, out: &mut [u8])
     let declared = untyped_size::untyped_length(short);
     match k {
         ContentKind::Binary => {
-            wire::inner::put_byte(out, 0, column_byte::u_short_len_byte(UShortLen::BigVarBin));
+            wire::inner::put_byte(out, 0, u8::from(UShortLen::BigVarBin));
             wire::inner::put_low(out, 1, declared, 2);
         }
         ContentKind::String => {
-            wire::inner::put_byte(out, 0, column_byte::u_short_len_byte(UShortLen::NVarchar));
+            wire::inner::put_byte(out, 0, u8::from(UShortLen::NVarchar));
             wire::inner::put_low(out, 1, declared, 2);
             wire::inner::put_low(out, 3, 0, 5);
         }
@@ -60,7 +60,7 @@ pub fn fill_untyped(v: Value, buffer: &[u8], out: &mut [u8])
     ensures { gives out.new ≡ write_untyped (value_told buffer.now v) }
 {
     match v {
-        Value::Null => wire::inner::put_byte(out, 0, column_byte::fixed_byte(FixedLen::Null)),
+        Value::Null => wire::inner::put_byte(out, 0, u8::from(FixedLen::Null)),
         Value::Scalar(s) => fill_untyped_scalar(s, out),
         Value::Binary(p) => fill_untyped_content(ContentKind::Binary, p, buffer, out),
         Value::String(p) => fill_untyped_content(ContentKind::String, p, buffer, out),

@@ -11,7 +11,7 @@ ghost use Rattle.value_kind.specs.Form.{encoded, encoded_part, in_form};
 
 use content_size::content;
 use value_kind::family::{ContentKind, Family};
-use value_kind::{Scalar, Span, Value, kinds};
+use value_kind::{Scalar, Span, Value};
 use wire::marks;
 
 // The value's bytes from at.
@@ -23,12 +23,7 @@ pub fn put_scalar(out: &mut [u8], at: usize, s: Scalar)
         guid::inner::put_guid(out, at, g);
         return;
     }
-    wire::inner::put_low(
-        out,
-        at,
-        kinds::number_of(s),
-        kinds::bytes_of(kinds::kind_of(s)),
-    );
+    wire::inner::put_low(out, at, s.number(), s.kind().bytes());
 }
 
 // Null under a family that has one.
@@ -58,7 +53,7 @@ fn fill_scalar(f: Family, declared: u32, s: Scalar, out: &mut [u8])
     match f {
         Family::Fixed(_) => put_scalar(out, 0, s),
         Family::LengthByte(_) => {
-            wire::inner::put_byte(out, 0, kinds::bytes_of(kinds::kind_of(s)) as u8);
+            wire::inner::put_byte(out, 0, s.kind().bytes() as u8);
             put_scalar(out, 1, s);
         }
         Family::Content(_) => {}

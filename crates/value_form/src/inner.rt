@@ -13,7 +13,6 @@ use crate::Form;
 use content_size::content;
 use value_kind::family::{ContentKind, Family};
 use value_kind::kinds::{Kind, Listed};
-use value_kind::{family, kinds};
 use wire::marks;
 
 // A bit whose byte stands at a place: a byte above 1 is written 1.
@@ -32,10 +31,10 @@ fn fixed(k: Kind, rest: &[u8]) -> Form
     requires { (d : ℕ) × IsRead (normal_in d (Some (fixed_width (kind_told k))) rest.now) }
     ensures { (d : ℕ) → form_told rest.now result ≡ normal_in d (Some (fixed_width (kind_told k))) rest.now }
 {
-    if kinds::same_kind(k, Kind::Bit) {
+    if k == Kind::Bit {
         return bit(rest, 0);
     }
-    Form::Same(kinds::bytes_of(k))
+    Form::Same(k.bytes())
 }
 
 // A value behind its length byte.
@@ -47,7 +46,7 @@ fn length_byte(l: Listed, rest: &[u8]) -> Form
     if n != 1 {
         return Form::Same(1 + n);
     }
-    if kinds::is_listed(l, Kind::Bit) {
+    if l.lists(Kind::Bit) {
         return bit(rest, 1);
     }
     Form::Same(2)
@@ -71,7 +70,7 @@ fn content(k: ContentKind, declared: u32, rest: &[u8]) -> Form
     ensures { form_told rest.now result ≡ normal_in declared (Some (content (content_kind_told k))) rest.now }
 {
     if content::is_plp(declared) {
-        let text = family::is_text(k);
+        let text = k.is_text();
         return Form::Plp(text);
     }
     short(k, declared, rest)

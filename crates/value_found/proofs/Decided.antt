@@ -1,6 +1,7 @@
 -- What is told of a value that was found has one value that tells it: the kind and the places have an inverse, and a scalar is the canonical one.
 -- Assumes nothing.
-use mathlib.Core.Path.{◌≡◌, refl, ap}
+use mathlib.Core.Path.{◌≡◌, refl, sym, ap, ◌∙◌}
+use Prim.Native.Nat.{ℕ}
 use Rattle.lists.proofs.Split.{clash}
 use Rattle.format.specs.Found as F
 use Rattle.format.proofs.Decided.{Undoes, decided}
@@ -10,7 +11,7 @@ use Rattle.value_found.specs.declared.Stand.{Stand}
 use Rattle.value_found.specs.declared.Stand.TheVariants as St
 use Rattle.value_found.specs.declared.Found.{Found}
 use Rattle.value_found.specs.declared.Found.TheVariants as Fo
-use Rattle.value_found.specs.Told.{stand_told, found_told, CanonicalFound}
+use Rattle.value_found.specs.Told.{stand_told, found_told, in_room, room_count, CanonicalFound}
 
 abbrev stand_back : F.Stand → Stand
 stand_back (F.in_input start count) = St.Input (record { start = start; count = count })
@@ -40,3 +41,10 @@ found_one (Fo.String a) Fo.Null p q e = clash cc
 found_one (Fo.String a) (Fo.Scalar w) p q e = clash cc
 found_one (Fo.String a) (Fo.Binary b) p q e = clash cc
 found_one (Fo.String a) (Fo.String b) p q e = let s : stand_told a ≡ stand_told b = cc in ap Fo.String (stand_one a b s)
+
+-- how many bytes of the room it has, is one number
+pub in_room_decided : (p : Stand) (m n : ℕ) → m ≡ in_room (stand_told p) → n ≡ in_room (stand_told p) → m ≡ n
+in_room_decided p m n e f = e ∙ sym f
+
+pub copied_decided : (x : Found) (m n : ℕ) → m ≡ room_count (found_told x) → n ≡ room_count (found_told x) → m ≡ n
+copied_decided x m n e f = e ∙ sym f

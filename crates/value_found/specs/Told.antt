@@ -25,6 +25,17 @@ found_told (Fo.Scalar v) = F.Found.scalar (scalar_told v)
 found_told (Fo.Binary p) = F.Found.binary (stand_told p)
 found_told (Fo.String p) = F.Found.string (stand_told p)
 
+-- how many bytes of the room found content has
+abbrev pub in_room : F.Stand → ℕ
+in_room (F.in_input start count) = 0
+in_room (F.in_room start count) = count
+
+abbrev pub room_count : F.Found → ℕ
+room_count F.Found.null = 0
+room_count (F.Found.scalar v) = 0
+room_count (F.Found.binary p) = in_room p
+room_count (F.Found.string p) = in_room p
+
 -- what was read, and the next place
 abbrev pub value_read_told : Result (Found × Cursor) Refusal → Read F.Found
 value_read_told (Ok (f, c)) = took (found_told f) c.at

@@ -9,8 +9,8 @@ ghost use Rattle.value_found.specs.Told.{stand_told, found_told, content_found, 
 ghost use Rattle.value_found.specs.Told.{plp_value, found_behind, room_behind};
 
 use crate::{Found, Stand};
+use value_kind::Span;
 use value_kind::family::{ContentKind, Family};
-use value_kind::{Span, family, kinds};
 use value_look::Seen;
 use wire::{Cursor, Refusal};
 
@@ -38,7 +38,7 @@ fn join_value(
     ensures canonical { CanonicalRead result }
     ensures room { (c : D.Column) → is_plp c ≡ true → out.new ≡ room_behind c (plp_value (content_kind_told k) rest.now) at copied out.old }
 {
-    let text = family::is_text(k);
+    let text = k.is_text();
     match plp_join::inner::join_in(rest, at, text, &mut out[copied..])? {
         (None, next) => Ok((Found::Null, next)),
         (Some(count), next) => {
@@ -72,7 +72,7 @@ pub fn read_in(
         Seen::Null(n) => Ok((Found::Null, Cursor { at: at + n })),
         Seen::Scalar(k, from) => {
             let v = scalar_read::inner::scalar_at(k, rest, from);
-            let next = at + (from + kinds::bytes_of(k));
+            let next = at + (from + k.bytes());
             Ok((Found::Scalar(v), Cursor { at: next }))
         },
         Seen::Part(k, start, count) => {

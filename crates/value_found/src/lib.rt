@@ -4,8 +4,10 @@
 
 pub mod inner;
 
+ghost use Rattle.std.specs.Prelude.{◌≡◌};
+ghost use Rattle.value_found.specs.Told.{stand_told, found_told, in_room, room_count};
+
 use value_kind::{Scalar, Span};
-use wire::{Cursor, Refusal};
 
 // Where content stands: a part of the input, its start counted in the whole input; or of the room.
 #[derive(Clone, Copy)]
@@ -22,4 +24,28 @@ pub enum Found {
     Scalar(Scalar),
     Binary(Stand),
     String(Stand),
+}
+
+impl Stand {
+    // How many bytes of the room the part has.
+    pub fn in_room(self) -> usize
+        ensures { result ≡ in_room (stand_told self) }
+    {
+        match self {
+            Stand::Input(_) => 0,
+            Stand::Room(p) => p.count,
+        }
+    }
+}
+
+impl Found {
+    // How many content bytes of the value were copied out.
+    pub fn copied(self) -> usize
+        ensures { result ≡ room_count (found_told self) }
+    {
+        match self {
+            Found::Null | Found::Scalar(_) => 0,
+            Found::Binary(p) | Found::String(p) => p.in_room(),
+        }
+    }
 }

@@ -19,15 +19,12 @@ use Rattle.format.specs.Scalar.{Kind}
 use Rattle.format.specs.Value.{ContentKind, Given, fixed_width, length_byte, content, content_bound, short_null, encode_content, bounded, string_of}
 use Rattle.format.specs.Value.{write_family, untyped_length, untyped_binary, untyped_string, untyped_text, write_untyped}
 use Rattle.format.proofs.Text.{in_short}
-use Rattle.value_kind.specs.Form.{given_of, same_content, encoded, encoded_part, formed, framed, short_up_to, untyped_head, untyped_limit}
+use Rattle.value_kind.specs.declared.family.ContentKind.{ContentKind as Declared}
+use Rattle.value_kind.specs.declared.family.ContentKind.TheVariants as CK
+use Rattle.value_kind.specs.Told.{content_kind_told}
+use Rattle.value_kind.specs.Form.{given_of, encoded, encoded_part, formed, framed, short_up_to, untyped_head, untyped_limit}
 
 -- ---- under a family
-
-pub same_content_lem : (j k : ContentKind) → true ≡ same_content j k → j ≡ k
-same_content_lem ContentKind.binary ContentKind.binary h = refl
-same_content_lem ContentKind.binary ContentKind.string h = clash cc
-same_content_lem ContentKind.string ContentKind.binary h = clash cc
-same_content_lem ContentKind.string ContentKind.string h = refl
 
 module _ (d : ℕ) (p : Part) where
   pub no_fixed : (f : Kind) (k : ContentKind) → write_family d (Some (fixed_width f)) (given_of k p) ≡ refuses kind
@@ -38,11 +35,11 @@ module _ (d : ℕ) (p : Part) where
   no_listed fs ContentKind.binary = refl
   no_listed fs ContentKind.string = refl
 
-  pub other_content : (j k : ContentKind) → false ≡ same_content j k → write_family d (Some (content j)) (given_of k p) ≡ refuses kind
-  other_content ContentKind.binary ContentKind.binary h = clash cc
-  other_content ContentKind.binary ContentKind.string h = refl
-  other_content ContentKind.string ContentKind.binary h = refl
-  other_content ContentKind.string ContentKind.string h = clash cc
+  pub other_content : (j k : Declared) → (j ≡ k → ⊥) → write_family d (Some (content (content_kind_told j))) (given_of (content_kind_told k) p) ≡ refuses kind
+  other_content CK.Binary CK.Binary h = absurd (h refl)
+  other_content CK.Binary CK.String h = refl
+  other_content CK.String CK.Binary h = refl
+  other_content CK.String CK.String h = absurd (h refl)
 
 -- null in its form
 module _ (d : ℕ) (k : ContentKind) where

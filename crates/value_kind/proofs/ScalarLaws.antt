@@ -1,26 +1,31 @@
 -- The bytes of a value of a fixed width: the low bytes of its number, but for a GUID; as many as its kind is wide.
 -- Assumes nothing.
 use Rattle.std.specs.Prelude.{Some}
-use mathlib.Core.Path.{◌≡◌, refl, ap, ◌∙◌}
+use mathlib.Core.Path.{◌≡◌, refl, sym, ap, ◌∙◌}
 use mathlib.Core.Bool.{Bool, true, false, not}
 use mathlib.Core.List.{List, ◌∷◌}
 use Prim.Native.Nat.{ℕ, suc, ◌+◌, ◌≤◌, ◌<◌}
 use native.Mathlib.Omega.{arith}
 use lib.ListN.{length}
-use lib.Dec.{ltb, lit≤, lit<}
+use lib.Dec.{ltb, lit≤, lit<, eqb-suc-suc}
+use denote.Enum.Bare.{sameb}
+use denote.Enum.Declared.{tag_of}
 use Rattle.lists.specs.Pick.{pick}
 use Rattle.format.specs.Answer.{Answer, gives, Refusal, kind, long, refuse_if, wrote}
 use Rattle.format.specs.Number.{low_bytes}
 use Rattle.format.specs.Descriptor.{byte_len_byte}
 use Rattle.format.specs.Scalar as S
-use Rattle.format.specs.Scalar.{width, kind_of, scalar_bytes, same_kind, is_one_of}
+use Rattle.format.specs.Scalar.{width, kind_of, place, scalar_bytes, same_kind, is_one_of}
 use Rattle.format.specs.Value.{Given, fixed_width, length_byte, write_family, untyped_type, write_untyped}
 use Rattle.format.proofs.Scalar.{length-guid}
 use Rattle.wire.specs.declared.Guid.{Guid}
 use Rattle.wire.specs.Told.{guid_bytes}
 use Rattle.value_kind.specs.declared.Scalar.{Scalar}
 use Rattle.value_kind.specs.declared.Scalar.TheVariants as C
-use Rattle.value_kind.specs.Told.{scalar_told, number_of}
+use Rattle.value_kind.specs.contracts.kinds.Kind.{the_type}
+use Rattle.value_kind.specs.declared.kinds.Kind.{Kind as K}
+use Rattle.value_kind.specs.declared.kinds.Kind.TheVariants as KV
+use Rattle.value_kind.specs.Told.{kind_told, scalar_told, number_of}
 use Rattle.wire.proofs.Writing.{check_passed}
 
 -- a list of one
@@ -55,6 +60,20 @@ length-bytes (C.F32Nan n) = refl
 length-bytes (C.F64 x) = refl
 length-bytes (C.F64Nan n) = refl
 length-bytes (C.Guid g) = length-guid (guid_bytes g)
+
+-- a derived `==` tells whether two kinds are the same in `format`
+place_tag : (k : K) → place (kind_told k) ≡ suc (tag_of the_type k)
+place_tag KV.Bit = refl
+place_tag KV.U8 = refl
+place_tag KV.I16 = refl
+place_tag KV.I32 = refl
+place_tag KV.I64 = refl
+place_tag KV.F32 = refl
+place_tag KV.F64 = refl
+place_tag KV.Guid = refl
+
+pub same_kinds : (j k : K) → sameb the_type j k ≡ same_kind (kind_told j) (kind_told k)
+same_kinds j k = rw (place_tag j, place_tag k) (sym (eqb-suc-suc (tag_of the_type j) (tag_of the_type k)))
 
 -- ---- under a family
 

@@ -14,12 +14,6 @@ abbrev pub given_of : ContentKind → Part → Given
 given_of ContentKind.binary p = Given.binary p
 given_of ContentKind.string p = Given.string p
 
-abbrev pub same_content : ContentKind → ContentKind → Bool
-same_content ContentKind.binary ContentKind.binary = true
-same_content ContentKind.binary ContentKind.string = false
-same_content ContentKind.string ContentKind.binary = false
-same_content ContentKind.string ContentKind.string = true
-
 -- the content bytes: binary as it is, a string in UTF-16LE
 abbrev pub encoded : ContentKind → List ℕ → Answer (List ℕ)
 encoded ContentKind.binary s = gives s

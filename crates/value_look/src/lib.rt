@@ -8,14 +8,13 @@ ghost use Rattle.std.specs.Prelude.{◌≡◌, false, ℕ, eqb, drop, Some};
 ghost use Rattle.format.specs.Answer.{further, then_read, map_read};
 ghost use Rattle.format.specs.Number.{read_low};
 ghost use Rattle.format.specs.Scalar.{read_scalar};
-ghost use Rattle.format.specs.Plp.{plp_mark, is_odd};
-ghost use Rattle.format.specs.Value.{Value, is_text, length_byte, content, read_short, read_family};
+ghost use Rattle.format.specs.Plp.{plp_mark};
+ghost use Rattle.format.specs.Value.{Value, length_byte, content, read_short, read_family};
 ghost use Rattle.value_kind.specs.Told.{kind_told, listed_told, content_kind_told, family_told};
 ghost use Rattle.value_look.specs.Told.{seen_told, Lies};
 
 use content_size::content;
 use value_kind::family::{ContentKind, Family};
-use value_kind::kinds;
 use value_kind::kinds::{Kind, Listed};
 use wire::{Refusal, marks};
 
@@ -34,7 +33,7 @@ fn scalar(k: Kind, rest: &[u8], at: usize) -> Result<Seen, Refusal>
     ensures told { seen_told rest.now result ≡ further at (map_read Value.scalar (read_scalar (kind_told k) (drop at rest.now))) }
     ensures lies { (d : ℕ) → Lies d rest.now result }
 {
-    if wire::inside(rest, at, kinds::bytes_of(k)) {
+    if wire::inside(rest, at, k.bytes()) {
         return Ok(Seen::Scalar(k, at));
     }
     Err(Refusal::Missing)
@@ -46,7 +45,7 @@ fn length_byte(l: Listed, declared: u32, rest: &[u8]) -> Result<Seen, Refusal>
     ensures told { seen_told rest.now result ≡ read_family declared (Some (length_byte (listed_told l))) rest.now }
     ensures lies { Lies declared rest.now result }
 {
-    if rest.len() == 0 {
+    if rest.is_empty() {
         return Err(Refusal::Missing);
     }
     let n = rest[0];
@@ -61,21 +60,6 @@ fn length_byte(l: Listed, declared: u32, rest: &[u8]) -> Result<Seen, Refusal>
             scalar(k, rest, 1)
         }
         None => Err(Refusal::Sequence),
-    }
-}
-
-// Is an even count asked, and the count odd?
-fn is_odd(k: ContentKind, n: usize) -> bool
-    ensures { result ≡ is_odd (is_text (content_kind_told k)) n }
-{
-    match k {
-        ContentKind::Binary => false,
-        ContentKind::String => {
-            if n % 2 == 0 {
-                return false;
-            }
-            true
-        }
     }
 }
 
@@ -94,7 +78,7 @@ fn short(k: ContentKind, declared: u32, rest: &[u8]) -> Result<Seen, Refusal>
     if (declared as usize) < n {
         return Err(Refusal::Long);
     }
-    if is_odd(k, n) {
+    if plp_rule::is_odd(k.is_text(), n as u64) {
         return Err(Refusal::Sequence);
     }
     if rest.len() - 2 < n {

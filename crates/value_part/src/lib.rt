@@ -8,7 +8,8 @@ ghost use Rattle.column_type.specs.Told.{column_told};
 ghost use Rattle.value_part.specs.Told.{short_content, part_seen};
 
 use column_type::Column;
-use value_kind::{Span, family};
+use value_kind::Span;
+use value_kind::family::Family;
 use value_look::Seen;
 use wire::{Cursor, Refusal};
 
@@ -27,11 +28,11 @@ fn part_seen(seen: Result<Seen, Refusal>) -> Span
     ensures { result ≡ part_seen seen }
 {
     match seen {
-        Ok(Seen::Null(_)) => Span { start: 0, count: 0 },
-        Ok(Seen::Scalar(_, _)) => Span { start: 0, count: 0 },
         Ok(Seen::Part(_, start, count)) => Span { start, count },
-        Ok(Seen::Plp(_)) => Span { start: 0, count: 0 },
-        Err(_) => Span { start: 0, count: 0 },
+        Ok(Seen::Null(_) | Seen::Scalar(_, _) | Seen::Plp(_)) | Err(_) => Span {
+            start: 0,
+            count: 0,
+        },
     }
 }
 
@@ -46,7 +47,7 @@ pub fn short_content(c: Column, s: &[u8], cursor: Cursor) -> &[u8]
     }
     if column_rule::keeps_rule(c) {
         let ty = c.ty;
-        let seen = value_look::look(family::family_of(ty), c.length as u32, &s[at..]);
+        let seen = value_look::look(Family::from(ty), c.length as u32, &s[at..]);
         let p = part_seen(seen);
         let start = at + p.start;
         return handed_back(s, start, p.count);

@@ -9,7 +9,7 @@ ghost use Rattle.value_read.specs.Told.{found_out, room_out};
 
 use column_type::Column;
 use value_found::{Found, inner};
-use value_kind::family;
+use value_kind::family::Family;
 use wire::{Cursor, Refusal};
 
 // The value of the column at the cursor; PLP content is joined at the front of the room.
@@ -29,7 +29,7 @@ pub fn read_value(
     }
     if column_rule::keeps_rule(c) {
         let ty = c.ty;
-        return inner::read_in(family::family_of(ty), c.length as u32, &s[at..], at, 0, out);
+        return inner::read_in(Family::from(ty), c.length as u32, &s[at..], at, 0, out);
     }
     Err(Refusal::Rule)
 }

@@ -9,7 +9,7 @@ ghost use Rattle.value_kind.specs.Told.{kind_told, listed_told, family_told, sca
 use content_size::content;
 use value_kind::family::{ContentKind, Family};
 use value_kind::kinds::{Kind, Listed};
-use value_kind::{Scalar, Value, kinds};
+use value_kind::{Scalar, Value};
 use wire::Refusal;
 
 // Null under a family.
@@ -33,8 +33,8 @@ fn null(f: Family, declared: u32) -> Result<usize, Refusal>
 fn fixed(wanted: Kind, k: Kind) -> Result<usize, Refusal>
     ensures { answer_told result ≡ refuse_if (not (same_kind (kind_told k) (kind_told wanted))) kind (gives (width (kind_told k))) }
 {
-    if kinds::same_kind(k, wanted) {
-        return Ok(kinds::bytes_of(k));
+    if k == wanted {
+        return Ok(k.bytes());
     }
     Err(Refusal::Kind)
 }
@@ -43,8 +43,8 @@ fn fixed(wanted: Kind, k: Kind) -> Result<usize, Refusal>
 fn listed(l: Listed, declared: u32, k: Kind) -> Result<usize, Refusal>
     ensures { answer_told result ≡ refuse_if (not (is_one_of (listed_told l) (kind_told k))) kind (refuse_if (ltb declared (width (kind_told k))) long (gives (1 + width (kind_told k)))) }
 {
-    if kinds::is_listed(l, k) {
-        let n = kinds::bytes_of(k);
+    if l.lists(k) {
+        let n = k.bytes();
         if (declared as usize) < n {
             return Err(Refusal::Long);
         }
@@ -58,8 +58,8 @@ fn scalar(f: Family, declared: u32, s: Scalar) -> Result<usize, Refusal>
     ensures { answer_told result ≡ wrote (write_family declared (family_told f) (Given.scalar (scalar_told s))) }
 {
     match f {
-        Family::Fixed(wanted) => fixed(wanted, kinds::kind_of(s)),
-        Family::LengthByte(l) => listed(l, declared, kinds::kind_of(s)),
+        Family::Fixed(wanted) => fixed(wanted, s.kind()),
+        Family::LengthByte(l) => listed(l, declared, s.kind()),
         Family::Content(_) => Err(Refusal::Kind),
         Family::NotCarried => Err(Refusal::NotCarried),
     }

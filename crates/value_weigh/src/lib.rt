@@ -12,7 +12,6 @@ ghost use Rattle.value_weigh.specs.Told.{weighed_told, needs_in, plp_needs, With
 
 use content_size::content;
 use value_kind::family::{ContentKind, Family};
-use value_kind::{family, kinds};
 use value_look::Seen;
 use wire::Refusal;
 
@@ -21,7 +20,7 @@ fn weigh_plp(k: ContentKind, rest: &[u8]) -> Result<(usize, usize, usize), Refus
     ensures told { weighed_told result ≡ map_read plp_needs (read_plp (is_text (content_kind_told k)) rest.now) }
     ensures within { Within rest.now result }
 {
-    match plp_join::judge_plp(rest, family::is_text(k))? {
+    match plp_join::judge_plp(rest, k.is_text())? {
         None => Ok((8, 0, 8)),
         Some((count, end)) => Ok((end, count, content::formed(true, count as u32))),
     }
@@ -35,7 +34,7 @@ pub fn weigh(f: Family, declared: u32, rest: &[u8]) -> Result<(usize, usize, usi
     match value_look::look(f, declared, rest)? {
         Seen::Null(n) => Ok((n, 0, n)),
         Seen::Scalar(k, at) => {
-            let wide = at + kinds::bytes_of(k);
+            let wide = at + k.bytes();
             Ok((wide, 0, wide))
         },
         Seen::Part(_, start, count) => {

@@ -11,8 +11,8 @@ ghost use Rattle.value_kind.specs.Told.{family_told, value_told};
 
 use column_type::Column;
 use value_fill::inner;
+use value_kind::Value;
 use value_kind::family::Family;
-use value_kind::{Value, family};
 use value_size::size;
 use wire::Refusal;
 
@@ -22,7 +22,7 @@ pub fn value_size(c: Column, v: Value, buffer: &[u8]) -> Result<usize, Refusal>
 {
     if column_rule::keeps_rule(c) {
         let ty = c.ty;
-        return size::in_family(family::family_of(ty), c.length as u32, v, buffer);
+        return size::in_family(Family::from(ty), c.length as u32, v, buffer);
     }
     Err(Refusal::Rule)
 }
@@ -54,7 +54,7 @@ pub fn write_value(c: Column, v: Value, buffer: &[u8], out: &mut [u8]) -> Result
 {
     if column_rule::keeps_rule(c) {
         let ty = c.ty;
-        return write_in(family::family_of(ty), c.length as u32, v, buffer, out);
+        return write_in(Family::from(ty), c.length as u32, v, buffer, out);
     }
     Err(Refusal::Rule)
 }

@@ -4,3 +4,4 @@ pub mod GuidLaws
 pub mod GuidBack
 pub mod Decided
 pub mod Exit
+pub mod Known

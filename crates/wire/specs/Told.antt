@@ -1,7 +1,9 @@
 -- What this crate's declared types tell, in the words of `format`: document 01's number or values for each case of an enum.
-use Rattle.std.specs.Prelude.{ℕ, ◌<◌, ◌≤◌, List, ◌++◌, length, take, drop, Result, Ok, Err}
+use Rattle.std.specs.Prelude.{ℕ, ◌<◌, ◌≤◌, List, [], ◌∷◌, ◌++◌, length, take, drop, Result, Ok, Err}
+use Rattle.lists.specs.Pick.{pick}
 use Rattle.format.specs.Answer.{Answer, gives, refuses, Read, took, stops, map_read}
 use Rattle.format.specs.Answer as A
+use Rattle.format.specs.Header.{listed}
 use Rattle.format.specs.Number.{high_nat, high_bytes, read_bytes}
 use Rattle.format.specs.Guid.{guid_order}
 use Rattle.wire.specs.declared.Refusal.{Refusal}
@@ -38,6 +40,18 @@ width_of Widths.One = 1
 width_of Widths.Two = 2
 width_of Widths.Four = 4
 width_of Widths.Eight = 8
+
+-- the widths that numbers have, in bytes
+abbrev pub widths : List ℕ
+widths = 1 ∷ 2 ∷ 4 ∷ 8 ∷ []
+
+-- a number that is listed, or refusal 2
+unfoldable pub known : List ℕ → ℕ → Answer ℕ
+known list n = pick (listed list n) (gives n) (refuses A.unknown)
+
+abbrev pub width_told : Result Width Refusal → Answer ℕ
+width_told (Ok w) = gives (width_of w)
+width_told (Err e) = refuses (refusal_told e)
 
 -- what was read, and the next place
 abbrev pub read_told : {A : Type 0} → Result (A × Cursor) Refusal → Read A

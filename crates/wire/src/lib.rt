@@ -34,13 +34,13 @@ impl Refusal {
     }
 }
 
-// The widths of a number.
-#[derive(Clone, Copy)]
+// The widths of a number, in bytes.
+#[derive(Clone, Copy, Debug, PartialEq, Eq)]
 pub enum Width {
-    One,
-    Two,
-    Four,
-    Eight,
+    One = 1,
+    Two = 2,
+    Four = 4,
+    Eight = 8,
 }
 
 // A place in the input.
@@ -61,11 +61,26 @@ impl Width {
     pub fn bytes(self) -> usize
         ensures { result ≡ width_of self }
     {
-        match self {
-            Width::One => 1,
-            Width::Two => 2,
-            Width::Four => 4,
-            Width::Eight => 8,
+        self as usize
+    }
+}
+
+// The width of so many bytes.
+impl TryFrom<u8> for Width {
+    ghost use Rattle.wire.specs.Told.{known, widths, width_told};
+
+    type Error = Refusal;
+
+    ghost try_from_gives = { λ n r. width_told r ≡ known widths n };
+
+    #[tactic(auto, unfolding(crate::specs::Told::known))]
+    fn try_from(n: u8) -> Result<Width, Refusal> {
+        match n {
+            1 => Ok(Width::One),
+            2 => Ok(Width::Two),
+            4 => Ok(Width::Four),
+            8 => Ok(Width::Eight),
+            _ => Err(Refusal::Unknown),
         }
     }
 }
@@ -74,13 +89,7 @@ impl Width {
 pub fn inside(s: &[u8], at: usize, n: usize) -> bool
     ensures { result ≡ leb (at + n) (length s.now) }
 {
-    if s.len() < at {
-        return false;
-    }
-    if s.len() - at < n {
-        return false;
-    }
-    true
+    at <= s.len() && n <= s.len() - at
 }
 
 impl Cursor {

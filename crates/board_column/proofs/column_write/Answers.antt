@@ -10,10 +10,10 @@ use Rattle.board_column.specs.Plain.{names_in, column_given}
 use Rattle.board_column.proofs.Laws.{given_is}
 use Rattle.board_column.proofs.column_write.Goals as goal
 
-pub returns-then-n-gt0 : goal.returns-then-n-gt0
-returns-then-n-gt0 c =
+pub returns-in-Some : goal.returns-in-Some
+returns-in-Some c =
     let a = c.args in
-    let d = c.write_record-n.ensures.1 c.if-n-gt0.true (names_in a.buffer.now a.names.now) in
+    let d = c.in-Some.ensures (names_in a.buffer.now a.names.now) in
     record {
       answer = c.at.ensures ∙ ap counted d.0;
       room = d.1;
@@ -22,11 +22,10 @@ returns-then-n-gt0 c =
 pub returns : goal.returns
 returns c =
     let a = c.args in
-    let left = c.write_record-n.new.out in
-    let same = c.write_record-n.ensures.0 (omega (arith, c.if-n-gt0.false)) in
+    let left = c.write_record.new.out in
     let given = given_is a.column.now a.names.now a.buffer.now _ c.column_of-c.ensures in
     let new = c.write_column.new.out in
-    let all = subst (λ (o : List ℕ). Writes c.answer.result new (column_given a.column.now a.names.now a.buffer.now) o) same
+    let all = subst (λ (o : List ℕ). Writes c.answer.result new (column_given a.column.now a.names.now a.buffer.now) o) c.in_default.ensures
     (writes_told _ _ _ _ _ left c.answer.ensures given (c.write_column.ensures.answer, c.write_column.ensures.room)) in record {
       answer = all.0;
       room = all.1;

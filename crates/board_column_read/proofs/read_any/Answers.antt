@@ -9,8 +9,8 @@ pub returns-in-Ok : goal.returns-in-Ok
 returns-in-Ok c =
     let a = c.args in
     let s = a.bytes.now in
-    let all = leaves_column _ s a.at a.index _ a.column.now _ a.names.now _ _ _ (sym (ap (column_read_told s) c.in-Ok.is) ∙ c.read_column-read.ensures.told)
-    (subst (NamesFrom s (a.at + 3)) c.in-Ok.is c.read_column-read.ensures.names) c.at.ensures c.record_of.ensures c.names_of.ensures in record {
+    let all = leaves_column _ s a.at a.index _ a.column.now _ a.names.now _ _ _ c.in-Ok.ensures.told
+    c.in-Ok.ensures.names c.at.ensures c.record_of.ensures c.names_of.ensures in record {
       answer = all.0;
       column = all.1.0;
       names = all.1.1;
@@ -21,7 +21,7 @@ returns-in-Err c =
     let a = c.args in
     let s = a.bytes.now in
     let all = leaves_nothing _ s a.at a.index _ a.column.now _ a.names.now _ _
-    (sym (ap (column_read_told s) c.in-Err.is) ∙ c.read_column-read.ensures.told) c.refused.ensures refl refl in record {
+    c.in-Err.ensures.told c.refused.ensures refl refl in record {
       answer = all.0;
       column = all.1.0;
       names = all.1.1;

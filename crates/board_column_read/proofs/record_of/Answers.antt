@@ -6,7 +6,7 @@ pub returns : goal.returns
 unfolding record_made
 returns c =
     rw (
-      c.type_byte.ensures,
+      c.from.ensures,
       c.flags.ensures,
       c.low.ensures,
       c.low-2.ensures,

@@ -21,21 +21,21 @@ returns-then-rest-lt8 c =
       room = all.1;
     }
 
-pub returns-then-is_known : goal.returns-then-is_known
-returns-then-is_known c =
+pub returns : goal.returns
+returns c =
     let a = c.args in
     let s = a.rest.now in
-    let k = reads_known s c.if-rest-lt8.false (sym c.is_known.ensures ∙ c.if-is_known.true) in
+    let k = reads_known s c.if-rest-lt8.false (sym c.is_known.ensures ∙ c.if-not-is_known.false) in
     let all = reads_took _ _ _ a.fields.now _ _ c.at.ensures c.numbers.ensures (placed a.at _ _ k) in record {
       answer = all.0;
       room = all.1;
     }
 
-pub returns : goal.returns
-returns c =
+pub returns-then-not-is_known : goal.returns-then-not-is_known
+returns-then-not-is_known c =
     let a = c.args in
     let s = a.rest.now in
-    let k = reads_unknown s c.if-rest-lt8.false (sym c.is_known.ensures ∙ c.if-is_known.false) in
+    let k = reads_unknown s c.if-rest-lt8.false (sym c.is_known.ensures ∙ c.if-not-is_known.true) in
     let all = reads_stops _ _ _ a.fields.now unknown c.unknown.ensures refl (placed a.at _ _ k) in record {
       answer = all.0;
       room = all.1;

@@ -41,7 +41,7 @@ returns c =
     c.in-Ok.ensures).0 c.if-mars-gt1.false
     c.if-fed_auth-gt1.false in
     let all = writes_told _ _ _ _ _ a.out.now c.answer.ensures
-    (rw (c.is_set-2.ensures, c.is_set.ensures, (encryption_known a.encryption _ c.in-Ok.ensures).1) is)
+    (rw (encryption_known a.encryption _ c.in-Ok.ensures).1 is)
     (c.write_prelogin.ensures.answer, c.write_prelogin.ensures.room) in record {
       answer = all.0;
       room = all.1;

@@ -1,4 +1,5 @@
 -- `column_read::read_fields` meets its contract: the fields of each family; one reader serves every type with a length. Assumes nothing.
+use mathlib.Core.Logic.{inl, inr}
 use mathlib.Core.Path.{sym, ap, ◌∙◌}
 use Prim.Native.Nat.{◌+◌}
 use Rattle.column_type.specs.Told.{fixed_told, byte_len_told, u_short_len_told, long_len_told, type_told}
@@ -47,10 +48,10 @@ returns-in-Xml c =
 
 pub returns-in-Udt : goal.returns-in-Udt
 returns-in-Udt c =
-    let a = c.args in
-    (sym (udt_fields (type_told a.t) a.s.now a.cursor.at (ap type_told c.in-Udt.is) c.requires), tt)
-
-pub returns-in-SsVariant : goal.returns-in-SsVariant
-returns-in-SsVariant c =
-    let a = c.args in
-    (sym (variant_fields (type_told a.t) a.s.now a.cursor.at (ap type_told c.in-SsVariant.is) c.requires), tt)
+    let a = c.args in (
+      elim c.in-Udt.is [
+        | inl e ↦ sym (udt_fields (type_told a.t) a.s.now a.cursor.at (ap type_told e) c.requires)
+        | inr e ↦ sym (variant_fields (type_told a.t) a.s.now a.cursor.at (ap type_told e) c.requires)
+      ],
+      tt,
+    )

@@ -4,7 +4,8 @@ use lib.ListN.{get_or}
 use Rattle.format.specs.Answer.{further}
 use Rattle.format.specs.Header.{packet_types, packet_statuses}
 use Rattle.wire.proofs.Exit.{exit_is}
-use Rattle.header.proofs.Laws.{known-gives, known-refused, header-short, header-type, header-status, header_there}
+use Rattle.wire.proofs.Known.{known-gives, known-refused}
+use Rattle.header.proofs.Laws.{header-short, header-type, header-status, header_there}
 use Rattle.header.proofs.header_in.Goals as goal
 
 pub returns-then-rest-lt8 : goal.returns-then-rest-lt8

@@ -17,7 +17,8 @@ returns-then-unused_zero c =
     c.unused_zero-then-unused_zero.ensures
     ∙ rw c.low_at-index.ensures.value (used_here c.args.r.now c.requires u c.if-flags-gt3.false c.if-r-ne0.false)
 
-pub returns : goal.returns
-returns c =
+pub returns-else-unused_zero : goal.returns-else-unused_zero
+returns-else-unused_zero c =
     let used = sym c.unused_zero.ensures ∙ c.if-unused_zero.false in
-    used_other c.args.r.now c.requires (rw c.low_at-collation.ensures.value at used) c.if-flags-gt3.false c.if-r-ne0.false
+    c.if-unused_zero.false
+    ∙ used_other c.args.r.now c.requires (rw c.low_at-collation.ensures.value at used) c.if-flags-gt3.false c.if-r-ne0.false

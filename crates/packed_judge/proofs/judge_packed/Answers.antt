@@ -1,90 +1,83 @@
 -- `packed_judge::judge_packed` meets its contract: at each turn what is left of the table's columns needs, behind the row so far, what the whole row needs
 -- (`Judged` of judge_step, over the columns that the table's records stand for). Assumes nothing.
-use mathlib.Core.Path.{◌≡◌, sym, ap, subst, ◌∙◌}
+use Rattle.std.specs.Prelude.{Err, IfOk, Ok, Result}
+use mathlib.Core.Path.{◌≡◌, sym, ap, ◌∙◌}
 use mathlib.Core.List.{List, []}
-use Prim.Native.Nat.{ℕ, ◌<◌, ◌-◌, ◌*◌, zero-le}
-use native.Mathlib.Nat.{le_antisymm}
+use Prim.Native.Nat.{ℕ, ◌+◌, ◌<◌, ◌*◌}
 use native.Mathlib.Omega.{arith}
 use lib.ListN.{length, drop}
-use Rattle.format.specs.Answer.{map_read, read_at}
+use Rattle.format.specs.Answer.{Read, map_read, read_at}
 use Rattle.format.specs.Descriptor as D
 use Rattle.format.specs.Row.{read_row}
-use Rattle.column_type.specs.declared.Column.{Column}
-use Rattle.judge_step.specs.Told.{needs_of, row_judged_told}
-use Rattle.judge_step.specs.Steps.{start_of, turns_of}
-use Rattle.judge_step.proofs.Judging.{Judged, judging_begins, judging_asks, judging_next, judging_ends, inside}
+use Rattle.wire.proofs.Exit.{exit_is}
+use Rattle.column_type.specs.Told.{column_told}
+use Rattle.value_weigh.specs.Told.{Needs}
+use Rattle.judge_step.specs.declared.RowNeeds.{RowNeeds}
+use Rattle.judge_step.specs.Told.{needs_of, needs_told, row_judged_told}
+use Rattle.judge_step.specs.Steps.{judge_on, start_of, Inside}
+use Rattle.judge_step.proofs.Judging.{JudgedOn, judging_begins, judging_next, judging_ends, start_refused}
 use Rattle.packed.specs.Made.{column_made, no_name, table_made}
 use Rattle.packed.proofs.Table.{columns-counted, column_there, column_made_lem}
 use Rattle.packed.proofs.Told.{table_told}
-use Rattle.packed_judge.proofs.judge_packed.Goals.{After-start-state, At-loop-i, In-loop-i}
+use Rattle.wire.specs.declared.Refusal.{Refusal}
+use Rattle.packed_judge.proofs.judge_packed.Goals.{After-start, In-loop-i}
 use Rattle.packed_judge.proofs.judge_packed.Goals as goal
 
+-- what a row needs
+abbrev needed : List D.Column → List ℕ → ℕ → Read Needs
+needed cs s at = map_read (needs_of cs) (read_at (read_row cs) s at)
+
+-- the counts are those of the table
+begun : (c : After-start) → row_judged_told c.start.result ≡ start_of (length (table_made c.args.table.now)) (length c.args.s.now) c.args.cursor.at
+begun c = rw (columns-counted c.args.table.now) (rw c.records-columns.ensures at c.start.ensures)
+
+pub returns-in_err-row : goal.returns-in_err-row
+returns-in_err-row c =
+    let a = c.args in
+    let e = ap row_judged_told (sym c.in_err-row.was) ∙ begun (goal.at.returns-in_err-row c).After-start in
+    rw (exit_is _ _ c.from_residual.ensures.1)
+    (start_refused (table_made a.table.now) a.s.now a.cursor.at _ e []
+    ∙ ap (λ (cs : List D.Column). needed cs a.s.now a.cursor.at) (table_told [] a.table.now))
+
 pub loop-i-init : goal.loop-i-init
-loop-i-init c = (zero-le, λ at e. judging_begins (table_made c.args.table.now) c.args.s.now at _ e)
+loop-i-init c =
+    let a = c.args in
+    judging_begins (table_made a.table.now) a.s.now a.cursor.at c.in_ok-row.row
+    (ap row_judged_told (sym c.in_ok-row.was) ∙ begun (goal.at.loop-i-init c).After-start)
 
-counted_at_in_loop_i : (c : In-loop-i) → c.records-columns.result ≡ length (table_made c.args.table.now)
-counted_at_in_loop_i c = c.records-columns.ensures ∙ sym (columns-counted c.args.table.now)
+-- a turn has a column
+has-column : (c : In-loop-i) → c.loop-i.i < length (table_made c.args.table.now)
+has-column c = rw (columns-counted c.args.table.now, ← c.records-columns.ensures) c.loop-i-test.true
 
--- how many turns there are
-turned_at_in_loop_i : (c : In-loop-i)
-    → c.turns-n.result ≡ turns_of (row_judged_told c.start-state.result) (length (table_made c.args.table.now))
-turned_at_in_loop_i c =
-    c.turns-n.ensures ∙ ap (turns_of (row_judged_told c.start-state.result)) (counted_at_in_loop_i c)
+pub judge_at-requires : goal.judge_at-requires
+judge_at-requires c =
+    (column_there c.args.table.now c.loop-i.i (has-column (goal.at.judge_at-requires c).In-loop-i), c.loop-i.invariant.1)
 
-less : (c : In-loop-i)
-    → c.loop-i.i < turns_of (row_judged_told c.start-state.result) (length (table_made c.args.table.now))
-less c = subst (λ (n : ℕ). c.loop-i.i < n) (turned_at_in_loop_i c) c.loop-i-test.true
-
-counted : (c : After-start-state) → c.records-columns.result ≡ length (table_made c.args.table.now)
-counted c = c.records-columns.ensures ∙ sym (columns-counted c.args.table.now)
-
-begun : (c : After-start-state)
-    → start_of (length (table_made c.args.table.now)) (length c.args.s.now) c.args.cursor.at ≡ row_judged_told c.start-state.result
-begun c =
-    ap (λ (n : ℕ). start_of n (length c.args.s.now) c.args.cursor.at) (sym (counted c))
-    ∙ sym c.start-state.ensures
-
-pub judge_at-state-requires : goal.judge_at-state-requires
-judge_at-state-requires c =
-    let at = c.args.cursor.at in
+-- what the step answers
+more : (c : In-loop-i) (x : Result RowNeeds Refusal)
+    → ((b : List ℕ) → row_judged_told x ≡ judge_on (column_told b (column_made (drop (16 * c.loop-i.i) c.args.table.now) no_name no_name no_name))
+    c.args.s.now (needs_told c.loop-i.row) c.loop-i.row.next.at)
+    → IfOk x (Inside (length c.args.s.now)) → JudgedOn (table_made c.args.table.now) c.args.s.now c.args.cursor.at (c.loop-i.i + 1) x
+more c x told inside =
+    let a = c.args in
     let i = c.loop-i.i in
-    let x = row_judged_told c.start-state.result in (
-      column_there c.args.table.now i (inside (table_made c.args.table.now) c.args.s.now at x i (less c)),
-      judging_asks (table_made c.args.table.now) c.args.s.now at x i (row_judged_told c.loop-i.state) (less c)
-          (c.loop-i.invariant.1 at (begun (goal.at.judge_at-state-requires c).After-start-state)),
-    )
+    judging_next (table_made a.table.now) a.s.now a.cursor.at i c.loop-i.row x (column_made (drop (16 * i) a.table.now) no_name no_name no_name)
+    (has-column c) c.loop-i.invariant (column_made_lem a.table.now i (has-column c)) told inside
 
 pub loop-i-preserved : goal.loop-i-preserved
-loop-i-preserved c =
-    let table = c.args.table.now in
-    let s = c.args.s.now in
-    let x = row_judged_told c.start-state.result in
-    let i = c.loop-i.i in
-    let l = less (goal.at.loop-i-preserved c).In-loop-i in
-    let c' = column_made (drop (16 * i) table) no_name no_name no_name in
-    let made = column_made_lem table i (inside (table_made c.args.table.now) s c.args.cursor.at x i l) in (
-      omega (arith, c.loop-i-test.true),
-      λ at e.
-          judging_next (table_made c.args.table.now) s at x i (row_judged_told c.loop-i.state) (row_judged_told c.judge_at-state.result) c' l
-          (c.loop-i.invariant.1 at e) made c.judge_at-state.ensures,
-    )
+loop-i-preserved c = more (goal.at.loop-i-preserved c).In-loop-i (Ok c.in_ok-row-2.row) c.in_ok-row-2.ensures.told c.in_ok-row-2.ensures.inside
 
-counted_at_at_loop_i : (c : At-loop-i) → c.records-columns.result ≡ length (table_made c.args.table.now)
-counted_at_at_loop_i c = c.records-columns.ensures ∙ sym (columns-counted c.args.table.now)
-
--- how many turns there are
-turned : (c : At-loop-i)
-    → c.turns-n.result ≡ turns_of (row_judged_told c.start-state.result) (length (table_made c.args.table.now))
-turned c =
-    c.turns-n.ensures ∙ ap (turns_of (row_judged_told c.start-state.result)) (counted_at_at_loop_i c)
+pub returns-in_err-row-2 : goal.returns-in_err-row-2
+returns-in_err-row-2 c =
+    let a = c.args in
+    rw (exit_is _ _ c.from_residual-in_err-row-2.ensures.1)
+    (more (goal.at.returns-in_err-row-2 c).In-loop-i (Err _) c.in_err-row-2.ensures.told tt []
+    ∙ ap (λ (cs : List D.Column). needed cs a.s.now a.cursor.at) (table_told [] a.table.now))
 
 pub returns : goal.returns
 returns c =
-    let at = c.args.cursor.at in
-    let s = c.args.s.now in
-    let last = le_antisymm c.loop-i.invariant.0 c.loop-i-test.false ∙ turned (goal.at.returns c).At-loop-i in
-    let whole = judging_ends (table_made c.args.table.now) s at (row_judged_told c.start-state.result) (row_judged_told c.loop-i.state)
-    (begun (goal.at.returns c).After-start-state)
-    (subst (λ (i : ℕ). Judged (table_made c.args.table.now) s at (row_judged_told c.start-state.result) i (row_judged_told c.loop-i.state)) last
-    (c.loop-i.invariant.1 at (begun (goal.at.returns c).After-start-state))) [] in
-    whole ∙ ap (λ (cs : List D.Column). map_read (needs_of cs) (read_at (read_row cs) s at)) (table_told [] c.args.table.now)
+    let a = c.args in
+    let z : c.loop-i.i ≡ c.records-columns.result = omega arith in
+    let n : c.loop-i.i ≡ length (table_made a.table.now) = z ∙ (c.records-columns.ensures ∙ sym (columns-counted a.table.now)) in
+    judging_ends (table_made a.table.now) a.s.now a.cursor.at c.loop-i.row (rw n at c.loop-i.invariant) []
+    ∙ ap (λ (cs : List D.Column). needed cs a.s.now a.cursor.at) (table_told [] a.table.now)

@@ -17,11 +17,11 @@ returns-in-2 c = rw c.in-2.is
 
 pub returns-in-3 : goal.returns-in-3
 unfolding is_number
-returns-in-3 c = rw (c.in-3.is, c.signed_two.ensures)
+returns-in-3 c = rw (c.in-3.is, c.widen_two.ensures)
 
 pub returns-in-4 : goal.returns-in-4
 unfolding is_number
-returns-in-4 c = rw (c.in-4.is, c.signed_four.ensures)
+returns-in-4 c = rw (c.in-4.is, c.widen_four.ensures)
 
 pub returns-in-6 : goal.returns-in-6
 unfolding is_number

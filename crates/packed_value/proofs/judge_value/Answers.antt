@@ -12,9 +12,13 @@ returns-then-v-lt3 c =
 pub returns-then-is_value : goal.returns-then-is_value
 returns-then-is_value c =
     let v = c.args.v.now in
-    rw (le-ltb (length v) 3 c.if-v-lt3.false, sym c.is_value.ensures ∙ c.if-is_value.true)
+    let three = c.at.ensures in
+    let e = rw (three.kind, three.first, three.second) at (sym c.is_value.ensures ∙ c.if-is_value.true) in
+    rw (le-ltb (length v) 3 c.if-v-lt3.false, e)
 
 pub returns : goal.returns
 returns c =
     let v = c.args.v.now in
-    rw (le-ltb (length v) 3 c.if-v-lt3.false, sym c.is_value.ensures ∙ c.if-is_value.false)
+    let three = c.at.ensures in
+    let e = rw (three.kind, three.first, three.second) at (sym c.is_value.ensures ∙ c.if-is_value.false) in
+    rw (le-ltb (length v) 3 c.if-v-lt3.false, e)

@@ -1,66 +1,79 @@
 -- `row_read::read_row` meets its contract: judged first, then a turn takes a column, and the steps' laws of read_step say what is joined. Assumes nothing.
-use Rattle.std.proofs.Common.{◌≡◌, ◌<◌, ℕ, List, length, refl, ◌∙◌, arith}
-use Rattle.format.specs.Answer.{map_read}
-use Rattle.columns.specs.Told.{columns_told}
-use Rattle.judge_step.specs.Told.{needs_of, row_judged_told}
-use Rattle.read_step.specs.Steps.{turns_of}
-use Rattle.read_step.specs.Told.{row_read_told}
-use Rattle.read_step.proofs.Joining.{answer, joining_fits, joining_says, joining_begins, joining_inside, joining_asks, joining_next, joining_ends}
-use Rattle.read_step.specs.Told.{place_told}
-use Rattle.row_read.proofs.read_row.Goals.{After-fit_in-fits, In-loop-i}
+use Rattle.std.proofs.Common.{◌≡◌, ℕ, List, length, sym, ap, ◌∙◌, arith}
+use Rattle.std.proofs.lemmas.List.{get_or_default}
+use Rattle.wire.proofs.Exit.{exit_is}
+use Rattle.format.specs.Answer.{took, map_read}
+use Rattle.format.specs.Value.{Value}
+use Rattle.columns.specs.None.{no_column}
+use Rattle.judge_step.specs.Told.{needs_told}
+use Rattle.read_step.specs.Told.{Place, place_told, first_place}
+use Rattle.read_step.proofs.Joining.{Read_in, joining_fits, joining_long, joining_refused, joining_begins, joining_asks, joining_next}
+use Rattle.read_step.proofs.Joining.{joining_ends, joining_none}
+use Rattle.row_read.proofs.read_row.Goals.{Else-out-row, then-row-ne0+else-loop-c-test, else-row-ne0}
 use Rattle.row_read.proofs.read_row.Goals as goal
 
--- what fits is what is read
-fits : (c : After-fit_in-fits) (b : List ℕ) →
-    let a = c.args in row_judged_told c.fit_in-fits.result ≡ map_read (needs_of (columns_told b a.cols.now)) (answer a.cols.now a.s.now a.cursor.at a.out.now b)
-fits c b =
-    let a = c.args in
-    joining_fits a.cols.now a.s.now a.cursor.at a.out.now b (row_judged_told c.judge_row-judged.result) _ (c.judge_row-judged.ensures b) c.fit_in-fits.ensures
-
-pub loop-i-init : goal.loop-i-init
-loop-i-init c =
+pub returns-in_err-row : goal.returns-in_err-row
+returns-in_err-row c =
     let a = c.args in record {
-      turns = c.turns-n.ensures;
-      same = refl;
-      joined = λ b. rw c.first-place.ensures (joining_begins a.cols.now a.s.now a.cursor.at a.out.now b);
+      told = λ b. rw (exit_is _ _ c.from_residual.ensures.1)
+          (joining_refused a.cols.now a.s.now a.cursor.at a.out.now b _ (c.in_err-row.ensures b)).told;
+      room = λ b. (joining_refused a.cols.now a.s.now a.cursor.at a.out.now b _ (c.in_err-row.ensures b)).room;
     }
 
--- there is a turn
-turn : (c : In-loop-i) → c.loop-i.i < turns_of (row_judged_told c.fit_in-fits.result) (length c.args.cols.now)
-turn c = rw (← c.loop-i.invariant.turns) c.loop-i-test.true
-
-pub column_at-c-requires : goal.column_at-c-requires
-column_at-c-requires c =
+pub returns-then-out-row : goal.returns-then-out-row
+returns-then-out-row c =
     let a = c.args in
-    joining_inside a.cols.now a.s.now a.cursor.at a.out.now (row_judged_told c.fit_in-fits.result) c.loop-i.i (turn (goal.at.column_at-c-requires c).In-loop-i)
+    let r = c.in_ok-row.row in record {
+      told = λ b. (joining_long a.cols.now a.s.now a.cursor.at a.out.now b (needs_told r) r.next.at (c.in_ok-row.ensures b) c.if-out-row.true).told;
+      room = λ b. (joining_long a.cols.now a.s.now a.cursor.at a.out.now b (needs_told r) r.next.at (c.in_ok-row.ensures b) c.if-out-row.true).room;
+    }
+
+-- what fits is read
+fits : (c : Else-out-row) (b : List ℕ) →
+    let a = c.args in
+    Read_in a.cols.now a.s.now a.cursor.at a.out.now (needs_told c.in_ok-row.row) c.in_ok-row.row.next.at b
+fits c b =
+    let a = c.args in
+    joining_fits a.cols.now a.s.now a.cursor.at a.out.now b (needs_told c.in_ok-row.row) c.in_ok-row.row.next.at (c.in_ok-row.ensures b) c.if-out-row.false
+
+pub loop-c-init : goal.loop-c-init
+loop-c-init c =
+    let a = c.args in
+    λ b vs next h. rw c.first-first.ensures (joining_begins a.cols.now a.s.now a.cursor.at a.out.now b vs next h)
 
 pub join_on-place-requires : goal.join_on-place-requires
 join_on-place-requires c =
     let a = c.args in
-    joining_asks a.cols.now a.s.now a.cursor.at a.out.now (row_judged_told c.fit_in-fits.result) (fits (goal.at.join_on-place-requires c).After-fit_in-fits)
-    c.loop-i.i (place_told c.loop-i.place) c.loop-i.out (turn (goal.at.join_on-place-requires c).In-loop-i) c.loop-i.invariant.joined c.column_at-c.result
-    c.column_at-c.ensures
+    λ b.
+    let f = fits (goal.at.join_on-place-requires c).Else-out-row b in
+    joining_asks a.cols.now a.s.now a.cursor.at a.out.now c.loop-c.c-index (place_told c.loop-c.place) c.loop-c.out c.loop-c-test.true _
+    (get_or_default a.cols.now c.loop-c.c-index _ no_column c.loop-c-test.true) b f.values _ f.is (c.loop-c.invariant b f.values _ f.is)
 
-pub loop-i-preserved : goal.loop-i-preserved
-loop-i-preserved c =
+pub loop-c-preserved : goal.loop-c-preserved
+loop-c-preserved c =
     let a = c.args in
-    let i = c.loop-i.invariant in record {
-      turns = i.turns;
-      same = c.join_on-place.auto.out ∙ i.same;
-      joined = joining_next a.cols.now a.s.now a.cursor.at a.out.now (row_judged_told c.fit_in-fits.result)
-          (fits (goal.at.loop-i-preserved c).After-fit_in-fits)
-          c.loop-i.i (place_told c.loop-i.place) c.loop-i.out (turn (goal.at.loop-i-preserved c).In-loop-i) i.joined c.column_at-c.result c.column_at-c.ensures
-          (place_told c.join_on-place.result) _ c.join_on-place.ensures;
-    }
+    λ b vs next h.
+    joining_next a.cols.now a.s.now a.cursor.at a.out.now c.loop-c.c-index (place_told c.loop-c.place) c.loop-c.out c.loop-c-test.true _
+    (get_or_default a.cols.now c.loop-c.c-index _ no_column c.loop-c-test.true) b vs next h (c.loop-c.invariant b vs next h)
+    (place_told c.join_on-place.result) c.join_on-place.new.out (c.join_on-place.ensures b)
 
-pub returns : goal.returns
-returns c =
+pub returns-clause-told : goal.returns-clause-told
+returns-clause-told c b =
     let a = c.args in
-    let i = c.loop-i.invariant in
-    let z : c.loop-i.i ≡ c.turns-n.result = omega arith in
-    let is = fits (goal.at.returns c).After-fit_in-fits in record {
-      told = λ b. joining_says a.cols.now a.s.now a.cursor.at a.out.now b (row_judged_told c.fit_in-fits.result) (row_read_told c.answer.result) (is b)
-          c.answer.ensures;
-      room = joining_ends a.cols.now a.s.now a.cursor.at a.out.now (row_judged_told c.fit_in-fits.result) is c.loop-i.i (place_told c.loop-i.place) c.loop-i.out
-          (z ∙ i.turns) i.joined;
-    }
+    let f = fits (goal.at.returns-clause-told c).Else-out-row b in
+    ap (λ (p : Place). took p c.in_ok-row.row.next.at) c.first-first.ensures
+    ∙ ap (map_read (λ (vs : List Value). first_place a.cursor.at)) (sym f.is)
+
+pub returns-clause-room : goal.returns-clause-room
+returns-clause-room c b =
+    let a = c.args in
+    let f = fits (goal.at.returns-clause-room c).Else-out-row b in
+    elim c.if-row-ne0.branch [
+      | then-row-ne0+else-loop-c-test w ↦
+          let e : w.loop-c.c-index ≡ length a.cols.now = omega arith in
+          w.out-is
+          ∙ joining_ends a.cols.now a.s.now a.cursor.at a.out.now b f.values _ f.is (place_told w.loop-c.place) w.loop-c.out
+          (rw e at (w.loop-c.invariant b f.values _ f.is))
+      | else-row-ne0 w ↦
+          w.out-is ∙ joining_none a.cols.now a.s.now a.cursor.at a.out.now b f.values _ f.is (f.count ∙ w.if-row-ne0.false)
+    ]

@@ -6,9 +6,9 @@ use Rattle.show_capture.proofs.show_normal.Goals as goal
 
 pub slice_bounds-say_normal-end : goal.slice_bounds-say_normal-end
 slice_bounds-say_normal-end g c =
-    omega (arith, count_fits _ _ _ _ (c.in-Ok.ensures.answer []), c.normal_held_row-made.auto.out)
+    omega (arith, count_fits _ _ _ _ (c.in-Ok.ensures.answer []), c.normal_row-made.auto.out)
 
 pub slice_bounds-say_normal-end-in-Ok : goal.slice_bounds-say_normal-end-in-Ok
 slice_bounds-say_normal-end-in-Ok g c =
     let h = count_fits _ _ _ _ (c.in-Ok.ensures.answer []) in
-    sym (length-take-le c.in-Ok.n _ (omega (arith, h, c.normal_held_row-made.auto.out)))
+    sym (length-take-le c.in-Ok.n _ (omega (arith, h, c.normal_row-made.auto.out)))

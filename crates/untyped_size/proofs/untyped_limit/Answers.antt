@@ -2,6 +2,6 @@
 use Rattle.format.specs.Value.{untyped_bound}
 use Rattle.untyped_size.proofs.untyped_limit.Goals as goal
 
-pub returns : goal.returns
+pub returns-else-short : goal.returns-else-short
 unfolding untyped_bound
-returns c = rw c.if-short.false
+returns-else-short c = rw c.if-short.false

@@ -7,14 +7,14 @@ use Rattle.value_kind.proofs.ScalarLaws.{untyped_scalar, width_most}
 use Rattle.untyped_size.proofs.untyped_size.Goals as goal
 
 pub overflow_add-result : goal.overflow_add-result
-overflow_add-result c = record { fits = omega (arith, c.bytes_of.ensures, width_most (kind_told c.kind_of.result)) }
+overflow_add-result c = record { fits = omega (arith, c.bytes.ensures, width_most (kind_told c.kind.result)) }
 
 pub returns-in-Null : goal.returns-in-Null
 unfolding wrote write_untyped
 returns-in-Null c = rw c.in-Null.is
 
 pub returns-in-Scalar : goal.returns-in-Scalar
-returns-in-Scalar c = rw (c.in-Scalar.is, untyped_scalar _, c.bytes_of.ensures, c.kind_of.ensures)
+returns-in-Scalar c = rw (c.in-Scalar.is, untyped_scalar _, c.bytes.ensures, c.kind.ensures)
 
 pub returns-in-Binary : goal.returns-in-Binary
 returns-in-Binary c = rw c.in-Binary.is c.untyped_content.ensures

@@ -12,7 +12,7 @@ pub returns-then-inside : goal.returns-then-inside
 returns-then-inside c =
     let a = c.args in
     let h : a.at + width (kind_told a.k) ≤ length a.rest.now =
-    rw c.bytes_of.ensures at (leb-true (a.at + c.bytes_of.result) (length a.rest.now) (sym c.inside.ensures ∙ c.if-inside.true)) in
+    rw c.bytes.ensures at (leb-true (a.at + c.bytes.result) (length a.rest.now) (sym c.inside.ensures ∙ c.if-inside.true)) in
     record {
       told = scalar_there (kind_told a.k) a.rest.now a.at h;
       lies = λ d. h;
@@ -22,7 +22,7 @@ pub returns : goal.returns
 returns c =
     let a = c.args in
     let h : length a.rest.now < a.at + width (kind_told a.k) =
-    rw c.bytes_of.ensures at (leb-false (a.at + c.bytes_of.result) (length a.rest.now) (sym c.inside.ensures ∙ c.if-inside.false)) in
+    rw c.bytes.ensures at (leb-false (a.at + c.bytes.result) (length a.rest.now) (sym c.inside.ensures ∙ c.if-inside.false)) in
     record {
       told = scalar-missing (kind_told a.k) a.rest.now a.at h;
       lies = λ d. tt;

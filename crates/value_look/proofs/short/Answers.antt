@@ -37,7 +37,7 @@ pub returns-then-is_odd : goal.returns-then-is_odd
 returns-then-is_odd c =
     let a = c.args in
     let k = content_kind_told a.k in
-    let o = sym c.is_odd.ensures ∙ c.if-is_odd.true in
+    let o = rw c.is_text.ensures at (sym c.is_odd.ensures ∙ c.if-is_odd.true) in
     let e = short-odd k a.declared a.rest.now _ c.low_at-n.ensures.value c.if-rest-lt2.false c.if-n.false c.if-declared-n.false o in
     record {
       told = e;
@@ -48,7 +48,7 @@ pub returns-then-rest-n : goal.returns-then-rest-n
 returns-then-rest-n c =
     let a = c.args in
     let k = content_kind_told a.k in
-    let o = sym c.is_odd.ensures ∙ c.if-is_odd.false in
+    let o = rw c.is_text.ensures at (sym c.is_odd.ensures ∙ c.if-is_odd.false) in
     let e = short-missing k a.declared a.rest.now _ c.low_at-n.ensures.value c.if-rest-lt2.false c.if-n.false
     c.if-declared-n.false o (omega arith) in
     record {
@@ -60,7 +60,7 @@ pub returns : goal.returns
 returns c =
     let a = c.args in
     let k = content_kind_told a.k in
-    let o = sym c.is_odd.ensures ∙ c.if-is_odd.false in
+    let o = rw c.is_text.ensures at (sym c.is_odd.ensures ∙ c.if-is_odd.false) in
     let e = short_there k a.declared a.rest.now _ c.low_at-n.ensures.value c.if-rest-lt2.false c.if-n.false
     c.if-declared-n.false o (omega arith) in
     record {

@@ -35,7 +35,7 @@ overflow_add-start c =
       arith,
       ap (λ (p : Span). p.start) c.part_seen-p.ensures,
       seen_inside (column_told names a.c) a.s.now a.cursor.at c.if-s-at.false (keeps (goal.at.overflow_add-start c).Then-keeps_rule names) _ _ _ refl
-          c.family_of.ensures
+          c.from.ensures
           (rest_is a.s.now a.cursor.at) c.look-seen.result c.look-seen.ensures.lies,
     )
 
@@ -45,7 +45,7 @@ returns-then-keeps_rule c =
     let r = rest_is a.s.now a.cursor.at in
     let e = c.handed_back.ensures ∙ ap (λ (p : Span). handed_back a.s.now (a.cursor.at + p.start) p.count) c.part_seen-p.ensures in
     λ b. e ∙ short_seen (column_told b a.c) a.s.now a.cursor.at c.if-s-at.false (keeps (goal.at.returns-then-keeps_rule c).Then-keeps_rule b) _ _ _ refl
-    c.family_of.ensures r
+    c.from.ensures r
     c.look-seen.result c.look-seen.ensures.told c.look-seen.ensures.lies
 
 pub returns : goal.returns

@@ -32,7 +32,7 @@ overflow_cast-c c =
 pub returns-then-keeps_rule : goal.returns-then-keeps_rule
 returns-then-keeps_rule c =
     let a = c.args in
-    let f = c.family_of.ensures in
+    let f = c.from.ensures in
     let r = rest_is a.s.now a.cursor.at in
     record {
       told = λ b. (place_inside (column_told b a.c) a.s.now a.cursor.at a.out.now c.if-s-at.false

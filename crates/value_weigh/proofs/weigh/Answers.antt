@@ -25,12 +25,12 @@ returns-in-Null c =
     }
 
 pub overflow_add-wide : goal.overflow_add-wide
-overflow_add-wide c = omega (arith, c.well_formed, c.bytes_of.ensures, rw c.in-Scalar.is at c.in_ok-n.ensures.lies)
+overflow_add-wide c = omega (arith, c.well_formed, c.bytes.ensures, rw c.in-Scalar.is at c.in_ok-n.ensures.lies)
 
 pub returns-in-Scalar : goal.returns-in-Scalar
 returns-in-Scalar c =
     let a = c.args in
-    let w = c.bytes_of.ensures in
+    let w = c.bytes.ensures in
     let e = rw c.in-Scalar.is at c.in_ok-n.ensures.told in
     let l = rw c.in-Scalar.is at c.in_ok-n.ensures.lies in
     record {

@@ -25,7 +25,7 @@ pub returns-then-keeps_rule : goal.returns-then-keeps_rule
 returns-then-keeps_rule c =
     let a = c.args in
     let k = sym (c.keeps_rule.ensures a.buffer.now) ∙ c.if-keeps_rule.true in
-    rw (rule-kept (column_told a.buffer.now a.c) (value_told a.buffer.now a.v) k, ← c.family_of.ensures)
+    rw (rule-kept (column_told a.buffer.now a.c) (value_told a.buffer.now a.v) k, ← c.from.ensures)
     record {
       answer = c.write_in.ensures.answer;
       room = c.write_in.ensures.room;

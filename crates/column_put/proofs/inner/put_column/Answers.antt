@@ -51,7 +51,7 @@ returns c =
       c.put_digits-second.ensures.room,
       c.put_low.ensures,
       c.put_byte.ensures,
-      c.type_byte.ensures,
+      c.from.ensures,
     )
     (column_stored a.out.now (column_told a.names.now a.c) c.length_width-w.result c.put_digits-second.result
     c.put_collation-third.result c.length_width-w.ensures c.put_digits-second.ensures.next

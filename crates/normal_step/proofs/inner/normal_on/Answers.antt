@@ -17,7 +17,7 @@ normal_in-requires c =
     let a = c.args in
     let e =
     in_family (column_told [] a.c) (drop a.run.at a.s.now) a.s.now (length a.out.now) a.run c.requires
-    (family_told c.family_of.result) c.family_of.ensures in
+    (family_told c.from.result) c.from.ensures in
     rw e at c.requires
 
 pub returns : goal.returns
@@ -25,5 +25,5 @@ returns c =
     let a = c.args in
     let e =
     in_family (column_told [] a.c) (drop a.run.at a.s.now) a.s.now (length a.out.now) a.run c.requires
-    (family_told c.family_of.result) c.family_of.ensures in
+    (family_told c.from.result) c.from.ensures in
     rw e c.normal_in.ensures

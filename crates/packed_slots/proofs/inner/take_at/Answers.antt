@@ -11,42 +11,42 @@ use Rattle.read_step.specs.Told.{place_told}
 use Rattle.plain_look.specs.Stands.{Stands, HasBytes, value_in}
 use Rattle.plain_look.proofs.Standing.{ends-inside}
 use Rattle.packed_slots.proofs.Taking.{taken-width}
-use Rattle.packed_slots.proofs.inner.take_at.Goals.{After-column_at-c, Then-n-ne0}
+use Rattle.packed_slots.proofs.inner.take_at.Goals.{After-column_at, In-Some}
 use Rattle.packed_slots.proofs.inner.take_at.Goals as goal
 
 -- the value
-there : (c : Then-n-ne0) →
+there : (c : In-Some) →
     let a = c.args in
     let rest = drop a.place.cursor.at a.s.now in
-    let p = c.plain_at-p.result in
-    Stands (column_of (drop (16 * c.args.i) c.args.table.now) no_names) rest (value_in p rest) c.width_in-n.result × HasBytes p rest
-there c = c.width_in-n.ensures (column_of (drop (16 * c.args.i) c.args.table.now) no_names) c.plain_at-p.ensures c.if-n-ne0.true
+    let p = c.in-Some.p in
+    Stands (column_of (drop (16 * c.args.i) c.args.table.now) no_names) rest (value_in p rest) c.in-Some.n × HasBytes p rest
+there c = c.in-Some.ensures
 
 pub slot_in-requires : goal.slot_in-requires
-slot_in-requires c = (there (goal.at.slot_in-requires c).Then-n-ne0).1
+slot_in-requires c = (there (goal.at.slot_in-requires c).In-Some).1
 
 pub overflow_add-result : goal.overflow_add-result
 overflow_add-result c =
     let a = c.args in
     let rest = drop a.place.cursor.at a.s.now in
-    let v = value_in c.plain_at-p.result rest in
-    let inside = ends-inside (column_of (drop (16 * c.args.i) c.args.table.now) no_names) a.s.now a.place.cursor.at v c.width_in-n.result c.requires.2
-    (there (goal.at.overflow_add-result c).Then-n-ne0).0 in
+    let v = value_in c.in-Some.p rest in
+    let inside = ends-inside (column_of (drop (16 * c.args.i) c.args.table.now) no_names) a.s.now a.place.cursor.at v c.in-Some.n c.requires.2
+    (there (goal.at.overflow_add-result c).In-Some).0 in
     record { fits = omega (arith, inside, c.well_formed) }
 
-pub returns-then-n-ne0 : goal.returns-then-n-ne0
-returns-then-n-ne0 c =
+pub returns-in-Some : goal.returns-in-Some
+returns-in-Some c =
     let a = c.args in
-    taken-width (column_of (drop (16 * c.args.i) c.args.table.now) no_names) a.s.now (place_told a.place) c.plain_at-p.result c.width_in-n.result
-    c.requires.2 (there (goal.at.returns-then-n-ne0 c).Then-n-ne0).0
+    taken-width (column_of (drop (16 * c.args.i) c.args.table.now) no_names) a.s.now (place_told a.place) c.in-Some.p c.in-Some.n
+    c.requires.2 (there (goal.at.returns-in-Some c).In-Some).0
     (3 * a.i) a.values.now a.out.now _ (rw c.slot_in.ensures at c.store.ensures)
 
 -- the column that is made tells the record's
-made_told : (c : After-column_at-c) (b : List ℕ) → column_told b c.column_at-c.result ≡ (column_of (drop (16 * c.args.i) c.args.table.now) no_names)
-made_told c b = ap (column_told b) c.column_at-c.ensures ∙ plain_told b (drop (16 * c.args.i) c.args.table.now)
+made_told : (c : After-column_at) (b : List ℕ) → column_told b c.column_at.result ≡ (column_of (drop (16 * c.args.i) c.args.table.now) no_names)
+made_told c b = ap (column_told b) c.column_at.ensures ∙ plain_told b (drop (16 * c.args.i) c.args.table.now)
 
 pub take_value-requires : goal.take_value-requires
-take_value-requires c = (c.requires.1, λ b. rw (made_told (goal.at.take_value-requires c).After-column_at-c b) c.requires.3)
+take_value-requires c = (c.requires.1, λ b. rw (made_told (goal.at.take_value-requires c).After-column_at b) c.requires.3)
 
-pub returns : goal.returns
-returns c = rw (← made_told (goal.at.returns c).After-column_at-c []) (c.take_value.ensures [])
+pub returns-in-None : goal.returns-in-None
+returns-in-None c = rw (← made_told (goal.at.returns-in-None c).After-column_at []) (c.take_value.ensures [])

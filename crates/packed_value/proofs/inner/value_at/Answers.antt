@@ -10,4 +10,6 @@ returns c =
     let a = c.args in
     let vs = a.values.now in
     let at = 3 * a.i in
-    c.value_of.ensures ∙ rw (get_or-drop at vs 0 0, get_or-drop at vs 1 0, get_or-drop at vs 2 0, add-zero at)
+    let three = c.at.ensures in
+    c.from.ensures
+    ∙ rw (three.kind, three.first, three.second, get_or-drop at vs 0 0, get_or-drop at vs 1 0, get_or-drop at vs 2 0, add-zero at)

@@ -7,13 +7,9 @@ use lib.ListN.{get_or, drop, length-drop}
 use lib.Seq.{get_or-drop}
 use Rattle.format.proofs.Number.{Bytes}
 use Rattle.format.proofs.Plain.{bytes_drop}
-use Rattle.packed_plain.specs.declared.Plain.TheVariants as P
-use Rattle.plain_look.proofs.Standing.{never, null-width, counted-width}
+use Rattle.plain_look.proofs.Standing.{null-width, counted-width}
 use Rattle.plain_look.proofs.inner.counted.Goals.{After-shared_slice_known-1, Start}
 use Rattle.plain_look.proofs.inner.counted.Goals as goal
-
-pub returns-then-there-eq0 : goal.returns-then-there-eq0
-returns-then-there-eq0 c = never (P.Counted c.args.k) (drop c.args.at c.args.s.now)
 
 -- the value's bytes
 bytes : (c : After-shared_slice_known-1) → Bytes c.args.s.now
@@ -33,15 +29,9 @@ returns-then-n-eq0 c =
     null-width a.k (drop c.args.at c.args.s.now) (omega (arith, length-drop a.at a.s.now, c.if-there-eq0.false))
     (first (goal.at.returns-then-n-eq0 c).Start ∙ c.if-n-eq0.true)
 
-pub returns-then-n-bytes_of : goal.returns-then-n-bytes_of
-returns-then-n-bytes_of c = never (P.Counted c.args.k) (drop c.args.at c.args.s.now)
-
-pub returns-then-there-n : goal.returns-then-there-n
-returns-then-there-n c = never (P.Counted c.args.k) (drop c.args.at c.args.s.now)
-
 pub returns : goal.returns
 returns c =
     let a = c.args in
-    counted-width a.k (get_or a.s.now a.at 0) (drop c.args.at c.args.s.now) (first (goal.at.returns c).Start) (c.if-n-bytes_of.false ∙ c.bytes_of.ensures)
+    counted-width a.k (get_or a.s.now a.at 0) (drop c.args.at c.args.s.now) (first (goal.at.returns c).Start) (c.if-n-bytes.false ∙ c.bytes.ensures)
     c.if-n-eq0.false
     (bytes_drop a.at a.s.now (bytes (goal.at.returns c).After-shared_slice_known-1)) (omega (arith, length-drop a.at a.s.now, c.if-there-n.false))

@@ -1,7 +1,4 @@
 -- `plain_look::inner::width_in` meets its contract: by what was told. Assumes nothing.
-use lib.ListN.{drop}
-use Rattle.packed_plain.specs.declared.Plain.TheVariants as P
-use Rattle.plain_look.proofs.Standing.{never}
 use Rattle.plain_look.proofs.inner.width_in.Goals as goal
 
 pub returns-in-Bare : goal.returns-in-Bare
@@ -9,8 +6,3 @@ returns-in-Bare c = rw c.in-Bare.is c.bare.ensures
 
 pub returns-in-Counted : goal.returns-in-Counted
 returns-in-Counted c = rw c.in-Counted.is c.counted.ensures
-
-pub returns-in-Other : goal.returns-in-Other
-returns-in-Other c =
-    let a = c.args in
-    rw c.in-Other.is (never P.Other (drop a.at a.s.now))

@@ -16,6 +16,3 @@ returns-in-Bare c = rw c.in-Bare.is c.slot_at.ensures
 
 pub returns-in-Counted : goal.returns-in-Counted
 returns-in-Counted c = rw c.in-Counted.is c.counted_slot.ensures
-
-pub returns-in-Other : goal.returns-in-Other
-returns-in-Other c = rw c.in-Other.is c.one.ensures

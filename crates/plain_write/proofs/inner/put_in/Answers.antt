@@ -8,7 +8,7 @@ pub put_kind-requires : goal.put_kind-requires
 put_kind-requires c =
     let a = c.args in
     let h = rw c.in-Bare.is at c.requires in
-    omega (arith, h, length-kind (kind_told c.in-Bare.k) a.first a.second)
+    omega (arith, h, length-kind (kind_told c.in-Bare.k) a.v.first a.v.second)
 
 pub put_counted-requires : goal.put_counted-requires
 put_counted-requires c = rw c.in-Counted.is at c.requires

@@ -68,7 +68,7 @@ pub returns-in-Bit : goal.returns-in-Bit
 returns-in-Bit c =
     let a = c.args in
     c.put_low.ensures
-    ∙ ap (sets a.out.now a.at) (low-kind a.k a.first a.second 1 (of_two a.k 0 1 1 refl refl c.in-Bit.in-Bit-own.keys1) (omega arith))
+    ∙ ap (sets a.out.now a.at) (low-kind a.k a.v.first a.v.second 1 (of_two a.k 0 1 1 refl refl c.in-Bit.in-Bit-own.keys1) (omega arith))
 
 pub returns-in-I16 : goal.returns-in-I16
 unfolding kind_bytes
@@ -78,13 +78,13 @@ pub returns-in-I32 : goal.returns-in-I32
 returns-in-I32 c =
     let a = c.args in
     c.put_low-in-I32.ensures
-    ∙ ap (sets a.out.now a.at) (low-kind a.k a.first a.second 4 (of_two a.k 3 5 4 refl refl c.in-I32.in-I32-own.keys3) (omega arith))
+    ∙ ap (sets a.out.now a.at) (low-kind a.k a.v.first a.v.second 4 (of_two a.k 3 5 4 refl refl c.in-I32.in-I32-own.keys3) (omega arith))
 
 pub returns-in-I64 : goal.returns-in-I64
 returns-in-I64 c =
     let a = c.args in
     c.put_low-in-I64.ensures
-    ∙ ap (sets a.out.now a.at) (low-kind a.k a.first a.second 8 (of_two a.k 4 6 8 refl refl c.in-I64.in-I64-own.keys4) (omega arith))
+    ∙ ap (sets a.out.now a.at) (low-kind a.k a.v.first a.v.second 8 (of_two a.k 4 6 8 refl refl c.in-I64.in-I64-own.keys4) (omega arith))
 
 pub returns-in-Guid : goal.returns-in-Guid
 unfolding kind_bytes guid_wire

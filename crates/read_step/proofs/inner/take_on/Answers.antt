@@ -43,26 +43,26 @@ returns-in_err-found c =
     let a = c.args in
     let d = column_told [] a.c in
     let r = rest_is a.s.now a.place.cursor.at in
-    not_refused d a.s.now a.out.now a.place.cursor.at a.place.copied (c.requires []) _ _ _ refl c.family_of.ensures r _ (c.in_err-found.ensures.told d refl)
+    not_refused d a.s.now a.out.now a.place.cursor.at a.place.copied (c.requires []) _ _ _ refl c.from.ensures r _ (c.in_err-found.ensures.told d refl)
 
 pub overflow_add-result : goal.overflow_add-result
 overflow_add-result c =
     let a = c.args in
     let d = column_told [] a.c in
     let r = rest_is a.s.now a.place.cursor.at in
-    let m = count_fits d a.s.now a.out.now a.place.cursor.at a.place.copied (c.requires []) _ _ _ refl c.family_of.ensures r _ _
+    let m = count_fits d a.s.now a.out.now a.place.cursor.at a.place.copied (c.requires []) _ _ _ refl c.from.ensures r _ _
     (c.in_ok-found.ensures.told d refl) in
-    record { fits = omega (arith, m, c.copied_of.ensures, c.well_formed) }
+    record { fits = omega (arith, m, c.copied.ensures, c.well_formed) }
 
 pub returns : goal.returns
 returns c =
     let a = c.args in
-    let f = c.family_of.ensures in
+    let f = c.from.ensures in
     let r = rest_is a.s.now a.place.cursor.at in
     record {
       told = λ b.
           let d = column_told b a.c in
-          rw c.copied_of.ensures
+          rw c.copied.ensures
           (placed_there d a.s.now a.out.now a.place.cursor.at a.place.copied (c.requires b) _ _ _ refl f r _ _ (c.in_ok-found.ensures.told d refl));
       canonical = c.in_ok-found.ensures.canonical;
       room = λ b.

@@ -31,7 +31,7 @@ overflow_cast-c c =
 pub returns-then-keeps_rule : goal.returns-then-keeps_rule
 returns-then-keeps_rule c =
     let a = c.args in
-    let f = c.family_of.ensures in
+    let f = c.from.ensures in
     let r = rest_is a.s.now a.self.cursor.at in
     record {
       told = λ b. place_kept (column_told b a.c) a.s.now a.self.cursor.at a.self.copied c.if-s-at.false

@@ -35,10 +35,10 @@ pub scalar_at-v-requires : goal.scalar_at-v-requires
 scalar_at-v-requires c = rw c.in-Scalar.is at c.in_ok-n.ensures.lies
 
 pub overflow_add-from : goal.overflow_add-from
-overflow_add-from c = omega (arith, c.requires, c.bytes_of.ensures, rw c.in-Scalar.is at c.in_ok-n.ensures.lies)
+overflow_add-from c = omega (arith, c.requires, c.bytes.ensures, rw c.in-Scalar.is at c.in_ok-n.ensures.lies)
 
 pub overflow_add-at-in-Scalar : goal.overflow_add-at-in-Scalar
-overflow_add-at-in-Scalar c = omega (arith, c.requires, c.bytes_of.ensures, rw c.in-Scalar.is at c.in_ok-n.ensures.lies)
+overflow_add-at-in-Scalar c = omega (arith, c.requires, c.bytes.ensures, rw c.in-Scalar.is at c.in_ok-n.ensures.lies)
 
 pub placed-requires-in-Scalar : goal.placed-requires-in-Scalar
 placed-requires-in-Scalar c = c.scalar_at-v.ensures.canonical
@@ -48,8 +48,8 @@ returns-in-Scalar c =
     let a = c.args in
     let e = rw c.in-Scalar.is at c.in_ok-n.ensures.told in
     let v = scalar_told c.scalar_at-v.result in
-    let w = c.bytes_of.ensures in
-    let f : took (Value.scalar v) (c.in-Scalar.from + c.bytes_of.result) ≡ read_family a.declared (family_told a.f) a.rest.now =
+    let w = c.bytes.ensures in
+    let f : took (Value.scalar v) (c.in-Scalar.from + c.bytes.result) ≡ read_family a.declared (family_told a.f) a.rest.now =
     rw (c.scalar_at-v.ensures.told, w) e in
     record {
       told = λ d l. c.placed-in-Scalar.ensures.told ∙ scalar-placed d a.at a.copied _ _ _ f;

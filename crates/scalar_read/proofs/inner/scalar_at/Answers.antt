@@ -41,7 +41,7 @@ pub returns-in-Bit : goal.returns-in-Bit
 unfolding scalar_of
 returns-in-Bit c =
     record {
-      told = rw (c.in-Bit.is, c.truth.ensures, c.low_at.ensures.value);
+      told = rw (c.in-Bit.is, c.low_at.ensures.value);
       canonical = tt;
     }
 
@@ -84,7 +84,7 @@ pub returns-in-F32 : goal.returns-in-F32
 unfolding scalar_of
 returns-in-F32 c =
     let p = float32_read c.low_at-in-F32.result c.low_at-in-F32.ensures.small in
-    let e = (c.from.ensures ∙ ap made32 c.from_bits32.ensures) in
+    let e = c.from-in-F32.ensures ∙ ap made32 c.from.ensures in
     record {
       told = rw (c.in-F32.is, e, ← c.low_at-in-F32.ensures.value) p.0;
       canonical = rw e p.1;
@@ -94,7 +94,7 @@ pub returns-in-F64 : goal.returns-in-F64
 unfolding scalar_of
 returns-in-F64 c =
     let p = float64_read c.low_at-in-F64.result c.low_at-in-F64.ensures.small in
-    let e = (c.from-in-F64.ensures ∙ ap made64 c.from_bits64.ensures) in
+    let e = c.from-in-F64-2.ensures ∙ ap made64 c.from-in-F64.ensures in
     record {
       told = rw (c.in-F64.is, e, ← c.low_at-in-F64.ensures.value) p.0;
       canonical = rw e p.1;

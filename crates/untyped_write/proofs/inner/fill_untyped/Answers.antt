@@ -25,7 +25,7 @@ unfolding write_untyped
 returns-in-Null c =
     rw c.in-Null.is
     (filled (write_untyped Given.null) c.args.out.now _ (fixed_byte FixedLen.null ∷ []) (rw c.in-Null.is at c.requires) refl
-    (rw c.fixed_byte.ensures at c.put_byte.ensures))
+    (rw c.from.ensures at c.put_byte.ensures))
 
 pub returns-in-Scalar : goal.returns-in-Scalar
 returns-in-Scalar c = rw c.in-Scalar.is c.fill_untyped_scalar.ensures

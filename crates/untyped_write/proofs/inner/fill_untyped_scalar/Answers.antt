@@ -16,7 +16,7 @@ abbrev bytes : Scalar → List ℕ
 bytes v = byte_len_byte (untyped_type (kind_of v)) ∷ width (kind_of v) ∷ width (kind_of v) ∷ scalar_bytes v
 
 pub overflow_cast-n : goal.overflow_cast-n
-overflow_cast-n c = record { fits = omega (arith, c.bytes_of-n.ensures, width_most (kind_told c.kind_of-k.result)) }
+overflow_cast-n c = record { fits = omega (arith, c.bytes-n.ensures, width_most (kind_told c.kind-k.result)) }
 
 pub put_byte-requires : goal.put_byte-requires
 put_byte-requires c =
@@ -46,10 +46,10 @@ pub returns : goal.returns
 returns c =
     let v = scalar_told c.args.s in
     let n = count_is _ _ (bytes v) c.requires (untyped_bytes c.args.s) in
-    let w = c.bytes_of-n.ensures ∙ ap width c.kind_of-k.ensures in
+    let w = c.bytes-n.ensures ∙ ap width c.kind-k.ensures in
     let t =
-    c.byte_len_byte.ensures
-    ∙ ap byte_len_byte (c.untyped_type.ensures ∙ ap untyped_type c.kind_of-k.ensures) in
+    c.from.ensures
+    ∙ ap byte_len_byte (c.untyped_type.ensures ∙ ap untyped_type c.kind-k.ensures) in
     filled _ c.args.out.now _ _ c.requires (untyped_bytes c.args.s)
     (rw
     (c.put_scalar.ensures, c.put_byte-3.ensures, c.put_byte-2.ensures, c.put_byte.ensures, w, t))

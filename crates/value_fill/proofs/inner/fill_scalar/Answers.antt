@@ -22,8 +22,8 @@ put_scalar-requires c =
     let v = scalar_told c.args.s in
     omega (arith, count_is _ _ (scalar_bytes v) p n, length-bytes c.args.s)
 
-pub overflow_cast-bytes_of : goal.overflow_cast-bytes_of
-overflow_cast-bytes_of c = record { fits = omega (arith, c.bytes_of.ensures, width_most (kind_told c.kind_of.result)) }
+pub overflow_cast-bytes : goal.overflow_cast-bytes
+overflow_cast-bytes c = record { fits = omega (arith, c.bytes.ensures, width_most (kind_told c.kind.result)) }
 
 pub put_byte-requires : goal.put_byte-requires
 put_byte-requires c =
@@ -51,12 +51,12 @@ returns-in-LengthByte c =
     let p = rw c.in-LengthByte.is at c.requires in
     let n = listed-written c.args.declared c.args.s (listed_told c.in-LengthByte.field-0) (length c.args.out.now) p in
     let v = scalar_told c.args.s in
-    let w = c.bytes_of.ensures ∙ ap width c.kind_of.ensures in
+    let w = c.bytes.ensures ∙ ap width c.kind.ensures in
     let out = c.args.out.now in
     rw c.in-LengthByte.is (filled _ out _ (width (kind_of v) ∷ scalar_bytes v) p n
     (c.put_scalar-in-LengthByte.ensures
     ∙ (ap (λ (l : List ℕ). sets l 1 (scalar_bytes v)) c.put_byte.ensures
-    ∙ (sets_then out 0 1 (c.bytes_of.result ∷ []) (scalar_bytes v) refl ∙ ap (λ (m : ℕ). sets out 0 (m ∷ scalar_bytes v)) w))))
+    ∙ (sets_then out 0 1 (c.bytes.result ∷ []) (scalar_bytes v) refl ∙ ap (λ (m : ℕ). sets out 0 (m ∷ scalar_bytes v)) w))))
 
 pub returns-in-Content : goal.returns-in-Content
 returns-in-Content c = not_refused kind _ (rw c.in-Content.is at c.requires)

@@ -11,4 +11,4 @@ returns-in-Guid c = rw c.in-Guid.is c.put_guid.ensures
 pub returns : goal.returns
 returns c =
     let low = low_bytes_lem c.args.s (λ g e. c.in_default.not-Guid g e) in
-    rw (low, ← c.kind_of.ensures, ← c.bytes_of.ensures, ← c.number_of.ensures) c.put_low.ensures
+    rw (low, ← c.kind.ensures, ← c.bytes.ensures, ← c.number.ensures) c.put_low.ensures

@@ -9,7 +9,7 @@ use Rattle.format.proofs.Number.{Bytes}
 use Rattle.value_kind.specs.Told.{listed_told}
 use Rattle.value_form.specs.Told.{normal_in, IsRead}
 use Rattle.value_form.proofs.Forming.{listed_there, listed_same, ListedBit, listed-bit}
-use Rattle.value_form.proofs.inner.length_byte.Goals.{After-shared_slice_known-2-1, Start, Then-is_listed}
+use Rattle.value_form.proofs.inner.length_byte.Goals.{After-shared_slice_known-2-1, Start, Then-lists}
 use Rattle.value_form.proofs.inner.length_byte.Goals as goal
 
 -- there is one
@@ -34,20 +34,20 @@ returns-then-n-ne1 c d i =
     listed_same a.l d a.rest.now (bytes (goal.at.returns-then-n-ne1 c).After-shared_slice_known-2-1) i (λ e. absurd (c.if-n-ne1.true e))
 
 -- a bit behind a length of 1
-bit : (c : Then-is_listed) (d : ℕ) → let a = c.args in
+bit : (c : Then-lists) (d : ℕ) → let a = c.args in
     IsRead (normal_in d (Some (length_byte (listed_told a.l))) a.rest.now) → ListedBit a.l d a.rest.now
 bit c d i =
     let a = c.args in
-    listed-bit a.l d a.rest.now i c.if-n-ne1.false (sym c.is_listed.ensures ∙ c.if-is_listed.true)
+    listed-bit a.l d a.rest.now i c.if-n-ne1.false (sym c.lists.ensures ∙ c.if-lists.true)
 
 pub bit-requires : goal.bit-requires
 bit-requires c = (bit c c.requires.0 c.requires.1).inside
 
-pub returns-then-is_listed : goal.returns-then-is_listed
-returns-then-is_listed c d i = c.bit.ensures ∙ (bit (goal.at.returns-then-is_listed c).Then-is_listed d i).is
+pub returns-then-lists : goal.returns-then-lists
+returns-then-lists c d i = c.bit.ensures ∙ (bit (goal.at.returns-then-lists c).Then-lists d i).is
 
 pub returns : goal.returns
 returns c d i =
     let a = c.args in
     let e : get_or a.rest.now 0 0 ≡ 1 = c.if-n-ne1.false in
-    rw e at (listed_same a.l d a.rest.now (bytes (goal.at.returns c).After-shared_slice_known-2-1) i (λ _. sym c.is_listed.ensures ∙ c.if-is_listed.false))
+    rw e at (listed_same a.l d a.rest.now (bytes (goal.at.returns c).After-shared_slice_known-2-1) i (λ _. sym c.lists.ensures ∙ c.if-lists.false))

@@ -40,18 +40,18 @@ pub scalar_at-v-requires : goal.scalar_at-v-requires
 scalar_at-v-requires c = rw c.in-Scalar.is at c.in_ok-n.ensures.lies
 
 pub overflow_add-next : goal.overflow_add-next
-overflow_add-next c = omega (arith, c.requires.0, c.bytes_of.ensures, rw c.in-Scalar.is at c.in_ok-n.ensures.lies)
+overflow_add-next c = omega (arith, c.requires.0, c.bytes.ensures, rw c.in-Scalar.is at c.in_ok-n.ensures.lies)
 
 pub overflow_add-next-in-Scalar : goal.overflow_add-next-in-Scalar
-overflow_add-next-in-Scalar c = omega (arith, c.requires.0, c.bytes_of.ensures, rw c.in-Scalar.is at c.in_ok-n.ensures.lies)
+overflow_add-next-in-Scalar c = omega (arith, c.requires.0, c.bytes.ensures, rw c.in-Scalar.is at c.in_ok-n.ensures.lies)
 
 pub returns-in-Scalar : goal.returns-in-Scalar
 returns-in-Scalar c =
     let a = c.args in
     let e = rw c.in-Scalar.is at c.in_ok-n.ensures.told in
     let v = scalar_told c.scalar_at-v.result in
-    let f : took (Value.scalar v) (c.in-Scalar.from + c.bytes_of.result) ≡ read_family a.declared (family_told a.f) a.rest.now =
-    rw (c.scalar_at-v.ensures.told, c.bytes_of.ensures) e in
+    let f : took (Value.scalar v) (c.in-Scalar.from + c.bytes.result) ≡ read_family a.declared (family_told a.f) a.rest.now =
+    rw (c.scalar_at-v.ensures.told, c.bytes.ensures) e in
     record {
       told = λ d l. (scalar-found d a.at a.copied a.out.now _ _ _ f).answered;
       canonical = c.scalar_at-v.ensures.canonical;

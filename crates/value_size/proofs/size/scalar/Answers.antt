@@ -4,10 +4,10 @@ use Rattle.value_kind.proofs.ScalarLaws.{fixed-scalar, listed-scalar}
 use Rattle.value_size.proofs.size.scalar.Goals as goal
 
 pub returns-in-Fixed : goal.returns-in-Fixed
-returns-in-Fixed c = rw (c.in-Fixed.is, fixed-scalar c.args.declared c.args.s, ← c.kind_of.ensures) c.fixed.ensures
+returns-in-Fixed c = rw (c.in-Fixed.is, fixed-scalar c.args.declared c.args.s, ← c.kind.ensures) c.fixed.ensures
 
 pub returns-in-LengthByte : goal.returns-in-LengthByte
-returns-in-LengthByte c = rw (c.in-LengthByte.is, listed-scalar c.args.declared c.args.s, ← c.kind_of-in-LengthByte.ensures) c.listed.ensures
+returns-in-LengthByte c = rw (c.in-LengthByte.is, listed-scalar c.args.declared c.args.s, ← c.kind-in-LengthByte.ensures) c.listed.ensures
 
 pub returns-in-Content : goal.returns-in-Content
 unfolding wrote
