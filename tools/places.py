@@ -13,7 +13,7 @@ START = re.compile(r'^( *)(?:pub )?(?:const )?(?:extern "C" )?fn (\w+)', re.M)
 
 
 def sources():
-    for path in sorted(glob.glob(os.path.join(ROOT, 'crates/*/src/*.rt'))):
+    for path in sorted(glob.glob(os.path.join(ROOT, 'crates/*/src/**/*.rt'), recursive=True)):
         with open(path, encoding='utf-8') as file:
             yield os.path.relpath(path, os.path.join(ROOT, 'crates')), file.read()
 

@@ -1,14 +1,26 @@
 -- What a call for C and Rust answers and leaves, once its outcome is known: a reader that took or stopped, a writer that was refused before it began or
 -- that answered.
 -- Assumes nothing.
-use mathlib.Core.Path.{◌≡◌, ap, subst, ◌∙◌}
+use mathlib.Core.Path.{◌≡◌, refl, ap, subst, ◌∙◌}
 use mathlib.Core.List.{List}
+use mathlib.Core.Bool.{Bool, true, false}
 use Prim.Native.Nat.{ℕ}
+use lib.Dec.{eqb, ltb}
 use lib.ListN.{length}
-use Rattle.format.specs.Answer.{Refusal, Answer, gives, refuses, Read, took, stops, fitted, wrote, room_after}
+use Rattle.format.specs.Answer.{Refusal, Answer, gives, refuses, Read, took, stops, unknown, refuse_if, fitted, wrote, room_after}
+use Rattle.lists.proofs.Split.{clash}
 use Rattle.wire.proofs.Writing.{Leaves, refused_before}
 use Rattle.board_answer.specs.declared.Counted.{Counted}
-use Rattle.board_answer.specs.Told.{counted, place, after}
+use Rattle.board_answer.specs.Told.{flag_given, counted, place, after}
+
+-- ---- a flag that was found: its number is below 2, and says which
+
+pub flag_is : (n : ℕ) (b : Bool) → gives b ≡ flag_given n → (ltb 1 n ≡ false) × (b ≡ eqb n 1)
+flag_is n b h = by_bound (ltb 1 n) (eqb n 1) b h
+  where
+    by_bound : (over x y : Bool) → gives y ≡ refuse_if over unknown (gives x) → (over ≡ false) × (y ≡ x)
+    by_bound true x y h = clash cc
+    by_bound false x y h = (refl, cc)
 
 -- ---- a reader: its answer, and what it leaves in the lent place
 

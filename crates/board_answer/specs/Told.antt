@@ -1,7 +1,11 @@
 -- What the calls for C and Rust answer, in the words of `format`.
-use Rattle.std.specs.Prelude.{ℕ}
-use Rattle.format.specs.Answer.{Answer, gives, refuses, Read, took, stops, number}
+use Rattle.std.specs.Prelude.{ℕ, Bool, eqb, ltb}
+use Rattle.format.specs.Answer.{Answer, gives, refuses, Read, took, stops, unknown, refuse_if, number}
 use Rattle.board_answer.specs.declared.Counted.{Counted}
+
+-- a flag is 0 or 1; another number is 2
+abbrev pub flag_given : ℕ → Answer Bool
+flag_given n = refuse_if (ltb 1 n) unknown (gives (eqb n 1))
 
 -- 0 and the count, or the refusal's number in document 01's table and 0
 abbrev pub counted : Answer ℕ → Counted

@@ -5,9 +5,20 @@
 ghost use Rattle.std.specs.Prelude.{◌≡◌};
 ghost use Rattle.format.specs.Answer.{gives, refuses, unknown};
 ghost use Rattle.wire.specs.Told.{refusal_told, answer_told};
-ghost use Rattle.board_answer.specs.Told.{counted};
+ghost use Rattle.board_answer.specs.Told.{flag_given, counted};
 
 use wire::Refusal;
+
+// The flag of a number: 0 or 1.
+pub fn flag(n: u64) -> Result<bool, Refusal>
+    ensures { answer_told result ≡ flag_given n }
+{
+    match n {
+        0 => Ok(false),
+        1 => Ok(true),
+        _ => Err(Refusal::Unknown),
+    }
+}
 
 // Refusal 0 and a count, or a refusal's number and 0.
 #[repr(C)]

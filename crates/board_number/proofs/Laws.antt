@@ -4,36 +4,39 @@
 use mathlib.Core.Path.{◌≡◌, refl, sym, ap, ◌∙◌}
 use mathlib.Core.Bool.{Bool, true, false}
 use mathlib.Core.List.{List, ◌++◌}
-use Prim.Native.Nat.{ℕ, ◌+◌, ◌<◌, ◌≤◌}
+use Prim.Native.Nat.{ℕ, ◌+◌}
 use native.Mathlib.Omega.{arith}
 use lib.Dec.{ltb}
 use lib.ListN.{length, take, drop, length-drop, take-append-drop}
 use lib.Seq.{length-take-le, take_all}
-use borrow.Author.Tests.{lt-ltb, le-ltb, ltb-true, ltb-false}
-use Rattle.format.specs.Answer.{Read, stops, unknown, map_read, read_at}
-use Rattle.format.specs.Number.{high_nat, high_bytes, read_bytes}
+use borrow.Author.Tests.{ltb-true, ltb-false}
+use Rattle.lists.specs.Pick.{pick}
+use Rattle.format.specs.Answer.{Refusal, gives, refuses, Read, stops, map_read, read_at}
+use Rattle.format.specs.Number.{high_nat, high_bytes, read_bytes, read_low, read_high}
 use Rattle.format.specs.Guid.{guid_order}
-use Rattle.format.specs.Header.{listed}
 use Rattle.format.proofs.Number.{Bytes, high_forth}
 use Rattle.format.proofs.Plain.{bytes_take, bytes_drop}
 use Rattle.wire.specs.declared.Guid.{Guid}
-use Rattle.wire.specs.Told.{widths, guid_bytes, guid_wire, read_guid}
+use Rattle.wire.specs.Told.{known, widths, guid_bytes, guid_wire, read_guid}
+use Rattle.wire.proofs.Known.{known-gives, known-refused}
 use Rattle.wire.proofs.Reading.{count_there, count-missing, guid_there, guid-missing}
 use Rattle.wire.proofs.GuidBack.{guid_read_back}
-use Rattle.board_number.specs.Plain.{number_by, number_at, guid_at}
+use Rattle.board_answer.specs.Told.{flag_given}
+use Rattle.board_answer.proofs.Laws.{flag_is}
+use Rattle.board_number.specs.Plain.{number_at, guid_at}
 
 -- ---- a number: its width, then the order
 
 module _ (width high : ℕ) (s : List ℕ) (at : ℕ) where
-  pub no_width : listed widths width ≡ false → stops unknown ≡ number_at width high s at
-  no_width w = rw w
+  pub no_width : (e : Refusal) → refuses e ≡ known widths width → stops e ≡ number_at width high s at
+  no_width e h = let k = known-refused widths width e h in rw (k.0, k.1)
 
-  module _ (w : listed widths width ≡ true) where
-    pub no_order : 1 < high → stops unknown ≡ number_at width high s at
-    no_order h = rw (w, lt-ltb 1 high h)
-
-    pub number_is : (read : Read ℕ) (m : ℕ) → m ≡ width → high ≤ 1 → read ≡ read_at (number_by high m) s at → read ≡ number_at width high s at
-    number_is read m e h r = rw (w, le-ltb 1 high h, ← e) r
+  pub number_is : (m : ℕ) (b : Bool) (read : Read ℕ) → gives m ≡ known widths width → gives b ≡ flag_given high →
+      read ≡ read_at (pick b (read_high m) (read_low m)) s at → read ≡ number_at width high s at
+  number_is m b read w f r =
+      let k = known-gives widths m width w in
+      let j = flag_is high b f in
+      rw (k.0, j.0, ← j.1, ← k.1) r
 
 -- ---- a GUID
 

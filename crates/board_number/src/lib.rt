@@ -3,20 +3,22 @@
 #![tactic(auto)]
 
 ghost use Rattle.std.specs.Prelude.{◌≡◌, length};
-ghost use Rattle.format.specs.Answer.{gives, read_at, fitted, wrote, room_after};
+ghost use Rattle.format.specs.Answer.{gives, fitted, wrote, room_after};
 ghost use Rattle.format.specs.Guid.{guid_order};
-ghost use Rattle.wire.specs.Told.{width_of, read_told, guid_bytes};
+ghost use Rattle.wire.specs.Told.{read_told, guid_bytes};
 ghost use Rattle.board_answer.specs.Told.{counted, place, after};
-ghost use Rattle.board_number.specs.Plain.{number_by, number_at, guid_at};
+ghost use Rattle.board_number.specs.Plain.{number_at, guid_at};
 
 use board_answer::Counted;
 use wire::{Cursor, Guid, Refusal, Width};
 
-// The number at a place, in one of the two orders.
-fn read_number(bytes: &[u8], from: Cursor, w: Width, high: u8) -> Result<(u64, Cursor), Refusal>
-    ensures { read_told result ≡ read_at (number_by high (width_of w)) bytes.now from.at }
+// The number of a width at a place of the bytes, in one of the two orders.
+fn number_of(bytes: &[u8], at: usize, width: u8, high: u8) -> Result<(u64, Cursor), Refusal>
+    ensures { read_told result ≡ number_at width high bytes.now at }
 {
-    if high == 1 {
+    let w = Width::try_from(width)?;
+    let from = Cursor { at };
+    if board_answer::flag(u64::from(high))? {
         from.high(bytes, w)
     } else {
         from.low(bytes, w)
@@ -28,14 +30,7 @@ pub fn number_read(bytes: &[u8], at: usize, width: u8, high: u8, to: &mut u64) -
     ensures answer { result ≡ counted (place (number_at width high bytes.now at)) }
     ensures room { to.new ≡ after (number_at width high bytes.now at) to.old }
 {
-    let w = match Width::try_from(width) {
-        Ok(w) => w,
-        Err(e) => return board_answer::refused(e),
-    };
-    if 1 < high {
-        return board_answer::unknown();
-    }
-    match read_number(bytes, Cursor { at }, w, high) {
+    match number_of(bytes, at, width, high) {
         Ok((n, next)) => {
             *to = n;
             board_answer::at(next.at)

@@ -1,40 +1,18 @@
--- What is read or to be written, once the numbers that no enum has are judged: a refusal, or the header; or the message that the layer below writes.
+-- What is read or to be written, once its type and its status are judged: a refusal, or the header.
 -- Assumes nothing.
 use mathlib.Core.Path.{◌≡◌, refl}
 use mathlib.Core.List.{List}
 use mathlib.Core.Bool.{Bool, true, false, not}
-use Prim.Native.Nat.{ℕ, ◌<◌, ◌≤◌}
-use lib.Dec.{eqb, ltb}
+use Prim.Native.Nat.{ℕ, ◌≤◌}
 use lib.ListN.{length, get_or}
-use borrow.Author.Tests.{lt-ltb, le-ltb, ltb-true, ltb-false}
+use borrow.Author.Tests.{le-ltb}
 use Rattle.lists.specs.Pick.{pick}
 use Rattle.lists.proofs.Split.{clash}
-use Rattle.format.specs.Answer.{Refusal, Answer, gives, refuses, Read, took, stops, unknown, refuse_if, stop_if, and_then}
+use Rattle.format.specs.Answer.{Answer, gives, refuses, Read, took, stops, unknown, stop_if, and_then}
 use Rattle.format.specs.Header as H
 use Rattle.format.specs.Header.{packet_types, packet_statuses, listed, header_of, read_header, header_bytes, write_header}
-use Rattle.format.specs.Prelogin.{write_prelogin}
 use Rattle.wire.specs.Told.{known}
-use Rattle.board_packet.specs.Plain.{header_made, header_given, prelogin_given}
-
--- ---- ENCRYPTION's number: known up to 3
-
-module _ (n : ℕ) where
-  abbrev number : Bool → Answer ℕ
-  number b = refuse_if b unknown (gives n)
-
-  refused_by : (b : Bool) (e : Refusal) → refuses e ≡ number b → (b ≡ true) × (e ≡ unknown)
-  refused_by true e h = (refl, cc)
-  refused_by false e h = clash cc
-
-  known_by : (b : Bool) (m : ℕ) → gives m ≡ number b → (b ≡ false) × (m ≡ n)
-  known_by true m h = clash cc
-  known_by false m h = (refl, cc)
-
-  pub encryption_refused : (e : Refusal) → refuses e ≡ number (ltb 3 n) → (3 < n) × (e ≡ unknown)
-  encryption_refused e h = let p = refused_by (ltb 3 n) e h in (ltb-true 3 n p.0, p.1)
-
-  pub encryption_known : (m : ℕ) → gives m ≡ number (ltb 3 n) → (n ≤ 3) × (m ≡ n)
-  encryption_known m h = let p = known_by (ltb 3 n) m h in (ltb-false 3 n p.0, p.1)
+use Rattle.board_packet.specs.Plain.{header_made, header_given}
 
 -- ---- a header: its type and its status, judged together
 
@@ -105,26 +83,3 @@ module _ (type status length spid id window : ℕ) where
   pub is_unknown : judges ≡ false → refuses unknown ≡ header
   unfolding known
   is_unknown h = given-unknown (listed packet_types type) (listed packet_statuses status) h
-
--- ---- a prelogin message: encryption, then the two flags
-
-module _ (version build encryption thread mars fed : ℕ) where
-  abbrev pub prelogin : Answer (List ℕ)
-  prelogin = and_then (prelogin_given version build encryption thread mars fed) write_prelogin
-
-  pub no_encryption : 3 < encryption → refuses unknown ≡ prelogin
-  no_encryption h = rw (lt-ltb 3 encryption h)
-
-  module _ (e : encryption ≤ 3) where
-    pub no_mars : 1 < mars → refuses unknown ≡ prelogin
-    no_mars h = rw (le-ltb 3 encryption e, lt-ltb 1 mars h)
-
-    module _ (m : mars ≤ 1) where
-      pub no_fed : 1 < fed → refuses unknown ≡ prelogin
-      no_fed h = rw (le-ltb 3 encryption e, le-ltb 1 mars m, lt-ltb 1 fed h)
-
-      pub prelogin_is : fed ≤ 1 →
-          write_prelogin
-          (record { version = version; sub_build = build; encryption = encryption; thread_id = thread; mars = eqb mars 1; fed_auth_required = eqb fed 1 })
-          ≡ prelogin
-      prelogin_is f = rw (le-ltb 3 encryption e, le-ltb 1 mars m, le-ltb 1 fed f)

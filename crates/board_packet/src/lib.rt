@@ -10,6 +10,7 @@ ghost use Rattle.format.specs.Answer.{further, map_read, and_then, fitted, wrote
 ghost use Rattle.format.specs.Header.{packet_types, packet_statuses, listed, header_of, read_header, header_bytes, write_header};
 ghost use Rattle.format.specs.Prelogin.{write_prelogin};
 ghost use Rattle.board_answer.specs.Told.{counted, place, after};
+ghost use Rattle.board_packet.specs.Told.{message_told};
 ghost use Rattle.board_packet.specs.Plain.{header_numbers, header_at, header_made, header_given, prelogin_given};
 
 use board_answer::Counted;
@@ -117,7 +118,28 @@ pub fn header_write(
     board_answer::at(8)
 }
 
-// The prelogin message of plain numbers, at the front of the room.
+// The prelogin message of plain numbers.
+fn message(
+    version: u32,
+    sub_build: u16,
+    encryption: u8,
+    thread_id: u32,
+    mars: u8,
+    fed_auth: u8,
+) -> Result<Prelogin, Refusal>
+    ensures { message_told result ≡ prelogin_given version sub_build encryption thread_id mars fed_auth }
+{
+    Ok(Prelogin {
+        version,
+        sub_build,
+        encryption: Encryption::try_from(encryption)?,
+        thread_id,
+        mars: board_answer::flag(u64::from(mars))?,
+        fed_auth_required: board_answer::flag(u64::from(fed_auth))?,
+    })
+}
+
+// The message, at the front of the room.
 pub fn prelogin_write(
     version: u32,
     sub_build: u16,
@@ -130,23 +152,8 @@ pub fn prelogin_write(
     ensures answer { result ≡ counted (wrote (fitted (and_then (prelogin_given version sub_build encryption thread_id mars fed_auth) write_prelogin) (length out.old))) }
     ensures room { out.new ≡ room_after (fitted (and_then (prelogin_given version sub_build encryption thread_id mars fed_auth) write_prelogin) (length out.old)) out.old }
 {
-    let encryption = match Encryption::try_from(encryption) {
-        Ok(e) => e,
-        Err(e) => return board_answer::refused(e),
-    };
-    if 1 < mars {
-        return board_answer::unknown();
+    match message(version, sub_build, encryption, thread_id, mars, fed_auth) {
+        Ok(p) => board_answer::answer(prelogin::write_prelogin(p, out)),
+        Err(e) => board_answer::refused(e),
     }
-    if 1 < fed_auth {
-        return board_answer::unknown();
-    }
-    let p = Prelogin {
-        version,
-        sub_build,
-        encryption,
-        thread_id,
-        mars: mars == 1,
-        fed_auth_required: fed_auth == 1,
-    };
-    board_answer::answer(prelogin::write_prelogin(p, out))
 }

@@ -50,10 +50,12 @@ walk_given at sum known total text ended =
     (refuse_if (ltb 1 ended) unknown
     (gives (record { at = at; sum = sum; total = total_given known total; text = eqb text 1; ended = eqb ended 1 }))))
 
+abbrev pub given : List ℕ → Answer Walk
+given n = walk_given (get_or n 0 0) (get_or n 1 0) (get_or n 2 0) (get_or n 3 0) (get_or n 4 0) (get_or n 5 0)
+
 -- the six numbers' walk, and how far it comes
 abbrev pub walk_step : ℕ → List ℕ → List ℕ → Answer Walked
-walk_step allowed s n =
-    and_then (walk_given (get_or n 0 0) (get_or n 1 0) (get_or n 2 0) (get_or n 3 0) (get_or n 4 0) (get_or n 5 0)) (walk_chunks allowed s)
+walk_step allowed s n = and_then (given n) (walk_chunks allowed s)
 
 -- the count is that of the heads taken
 abbrev pub heads : Answer Walked → Answer ℕ

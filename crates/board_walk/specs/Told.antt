@@ -1,10 +1,13 @@
 -- What this crate's declared types tell, in the words of `format`.
-use Rattle.std.specs.Prelude.{None, Option, Some}
-use Rattle.format.specs.Answer.{Answer, gives, refuses, unknown}
-use Rattle.format.specs.Plp as P
+use Rattle.std.specs.Prelude.{ℕ, List, Result, Ok, Err}
+use Rattle.format.specs.Answer.{Read, took, stops}
+use Rattle.wire.specs.Told.{refusal_told}
+use Rattle.wire.specs.declared.Refusal.{Refusal}
 use Rattle.plp.specs.Told.{walk_told}
 use Rattle.plp.specs.declared.Walk.{Walk}
+use Rattle.board_walk.specs.Plain.{walk_numbers}
 
-abbrev pub given_told : Option Walk → Answer P.Walk
-given_told (Some w) = gives (walk_told w)
-given_told None = refuses unknown
+-- a walk that was opened, as its six numbers: the next place is its own
+abbrev pub opened_told : Result Walk Refusal → Read (List ℕ)
+opened_told (Ok w) = took (walk_numbers (walk_told w)) w.at
+opened_told (Err e) = stops (refusal_told e)

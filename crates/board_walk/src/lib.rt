@@ -3,14 +3,14 @@
 #![tactic(auto)]
 
 ghost use Rattle.std.specs.Prelude.{◌≡◌};
-ghost use Rattle.plp.specs.Told.{total_told, walk_told};
+ghost use Rattle.plp.specs.Told.{walk_told, headed_told, walked_told};
 ghost use Rattle.board_answer.specs.Told.{counted, place, after};
-ghost use Rattle.board_walk.specs.Plain.{walk_numbers, total_given, walk_at, walk_given, walk_step, heads, walk_after};
-ghost use Rattle.board_walk.specs.Told.{given_told};
+ghost use Rattle.board_walk.specs.Plain.{walk_numbers, walk_at, given, walk_step, heads, walk_after};
+ghost use Rattle.board_walk.specs.Told.{opened_told};
 
 use board_answer::Counted;
 use plp::{Opened, Walk};
-use wire::Cursor;
+use wire::{Cursor, Refusal};
 
 // A walk's six numbers.
 fn numbers(w: Walk) -> [u64; 6]
@@ -26,61 +26,57 @@ fn numbers(w: Walk) -> [u64; 6]
     ]
 }
 
-// The total of two numbers.
-fn total_of(known: u64, total: u64) -> Option<u64>
-    ensures { total_told result ≡ total_given known total }
+// The walk behind the eight bytes at a place of the bytes. A null's has ended.
+fn opened(bytes: &[u8], at: usize, text: u8) -> Result<Walk, Refusal>
+    ensures { opened_told result ≡ walk_at text bytes.now at }
 {
-    if known == 1 { Some(total) } else { None }
+    let text = board_answer::flag(u64::from(text))?;
+    match plp::open_walk(bytes, Cursor { at }, text)? {
+        Opened::Walk(w) => Ok(w),
+        Opened::Null(next) => Ok(Walk {
+            at: next.at,
+            sum: 0,
+            total: None,
+            text,
+            ended: true,
+        }),
+    }
 }
 
-// The walk behind the eight bytes at a place of the bytes. A null's has ended.
+// The same, as six numbers.
 pub fn walk_open(bytes: &[u8], at: usize, text: u8, walk: &mut [u64; 6]) -> Counted
     ensures answer { result ≡ counted (place (walk_at text bytes.now at)) }
     ensures room { walk.new ≡ after (walk_at text bytes.now at) walk.old }
 {
-    if 1 < text {
-        return board_answer::unknown();
-    }
-    let text = text == 1;
-    match plp::open_walk(bytes, Cursor { at }, text) {
-        Ok(Opened::Walk(w)) => {
+    match opened(bytes, at, text) {
+        Ok(w) => {
             *walk = numbers(w);
             board_answer::at(w.at)
-        }
-        Ok(Opened::Null(next)) => {
-            *walk = numbers(Walk {
-                at: next.at,
-                sum: 0,
-                total: None,
-                text,
-                ended: true,
-            });
-            board_answer::at(next.at)
         }
         Err(e) => board_answer::refused(e),
     }
 }
 
 // The walk of six numbers. A flag is 0 or 1.
-fn walk_given(at: u64, sum: u64, known: u64, total: u64, text: u64, ended: u64) -> Option<Walk>
-    ensures { given_told result ≡ walk_given at sum known total text ended }
+fn walk_given(n: &[u64; 6]) -> Result<Walk, Refusal>
+    ensures { headed_told result ≡ given n.now }
 {
-    if 1 < known {
-        return None;
-    }
-    if 1 < text {
-        return None;
-    }
-    if 1 < ended {
-        return None;
-    }
-    Some(Walk {
-        at: at as usize,
-        sum,
-        total: total_of(known, total),
-        text: text == 1,
-        ended: ended == 1,
+    let known = board_answer::flag(n[2])?;
+    Ok(Walk {
+        at: n[0] as usize,
+        sum: n[1],
+        total: known.then_some(n[3]),
+        text: board_answer::flag(n[4])?,
+        ended: board_answer::flag(n[5])?,
     })
+}
+
+// The walk of six numbers, as many chunk heads further as are allowed, or up to the last zero; and how
+// many were taken.
+fn stepped(bytes: &[u8], allowed: u64, n: &[u64; 6]) -> Result<(Walk, u64), Refusal>
+    ensures { walked_told result ≡ walk_step allowed bytes.now n.now }
+{
+    plp::walk_chunks(bytes, walk_given(n)?, allowed)
 }
 
 // As many chunk heads as are allowed, or up to the last zero.
@@ -88,12 +84,9 @@ pub fn walk_step(bytes: &[u8], allowed: u64, walk: &mut [u64; 6]) -> Counted
     ensures answer { result ≡ counted (heads (walk_step allowed bytes.now walk.old)) }
     ensures room { walk.new ≡ walk_after (walk_step allowed bytes.now walk.old) walk.old }
 {
-    let Some(w) = walk_given(walk[0], walk[1], walk[2], walk[3], walk[4], walk[5]) else {
-        return board_answer::unknown();
-    };
-    match plp::walk_chunks(bytes, w, allowed) {
-        Ok((x, taken)) => {
-            *walk = numbers(x);
+    match stepped(bytes, allowed, walk) {
+        Ok((w, taken)) => {
+            *walk = numbers(w);
             board_answer::count(taken)
         }
         Err(e) => board_answer::refused(e),

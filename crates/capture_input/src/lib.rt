@@ -24,10 +24,8 @@ fn say_fault(faults: &impl Print, name: &[u8], text: &[u8]) -> io::Result<()> {
 
 // What the system calls an error, without the error's number.
 fn system_words(text: &str) -> &str {
-    match text.split_once(" (os error ") {
-        Some((before, _)) => before,
-        None => text,
-    }
+    text.split_once(" (os error ")
+        .map_or(text, |(before, _)| before)
 }
 
 // A file that could not be opened or read, and what the system says of it.
@@ -127,14 +125,10 @@ fn is_given(rt: &impl Env, i: usize) -> bool {
 
 // How many inputs there are: a file for each argument behind the program's name, or standard input.
 pub fn inputs(rt: &impl Env) -> usize {
-    let mut count: usize = 0;
-    for i in 0..usize::MAX {
-        if !is_given(rt, i) {
-            break;
-        }
-        count = i;
-    }
-    count.max(1)
+    (1..usize::MAX)
+        .take_while(|i| is_given(rt, *i))
+        .count()
+        .max(1)
 }
 
 // The bytes of an input, from 0 on, at the front of the buffer: how many they are, none where there
