@@ -70,12 +70,15 @@ pub fn put_high(out: &mut [u8], at: usize, n: u64, w: usize)
     }
 }
 
-// Copies src to the front of dst, and keeps what stands behind it.
+// Copies src to the front of dst, and keeps what stands behind it. A loop, and not `copy_from_slice`, which would
+// ask whoever links the archive for `memmove`.
 pub fn copy(src: &[u8], dst: &mut [u8])
     requires { length src.now ≤ length dst.old }
     ensures { dst.new ≡ src.now ++ drop (length src.now) dst.old }
 {
-    dst[..src.len()].copy_from_slice(src);
+    for i in 0..src.len() {
+        dst[i] = src[i];
+    }
 }
 
 // Copies the bytes from b up to e of s into out at o.
