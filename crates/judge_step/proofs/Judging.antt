@@ -1,9 +1,9 @@
 -- Judging a row, turn by turn: what is left of the columns, read from where the row so far ends, needs behind what the row needs so far what the whole row
 -- needs.
 -- Why it holds: `read_values` takes a column from the left at each turn as the pass does, and the second reader goes on at the first one's next place; both
--- end at the first refusal. The place and the number of columns were judged before the first turn.
+-- end at the first refusal, and a refused row stays refused. The place and the number of columns were judged before the first turn.
 -- Assumes nothing.
-use Rattle.std.specs.Prelude.{Err, Ok, IfOk, Result}
+use Rattle.std.specs.Prelude.{Err, Ok, Result}
 use mathlib.Core.Path.{◌≡◌, refl, sym, ap, ◌∙◌}
 use mathlib.Core.Bool.{Bool, true, false}
 use mathlib.Core.List.{List, [], ◌∷◌}
@@ -78,15 +78,17 @@ module _ (d : D.Column) (ds : List D.Column) (s : List ℕ) where
       ap (map_read (λ (ws : List Value). plus_needs n (needs_of (d ∷ ds) ws))) (at_then_stops (read_value d) (cons_read (read_values ds)) s at r e)
 
   -- one column more
-  left_more : (n : Needs) (at : ℕ) → judge_left (d ∷ ds) s (took n at) ≡ judge_left ds s (judge_on d s n at)
-  left_more n at = first n at (read_at (read_value d) s at) refl
+  left_more : (x : Read Needs) → judge_left (d ∷ ds) s x ≡ judge_left ds s (judge_on d s x)
+  left_more (took n at) = first n at (read_at (read_value d) s at) refl
+  left_more (stops e) = refl
 
 -- none is left
-left_none : (s : List ℕ) (n : Needs) (at : ℕ) → at ≤ length s → judge_left [] s (took n at) ≡ took n at
+left_none : (s : List ℕ) (x : Read Needs) → Inside (length s) x → judge_left [] s x ≡ x
 unfolding read_values copied_out_row encode_row
-left_none s n at i =
-    ap (map_read (λ vs. plus_needs n (needs_of [] vs))) (at_took (read_values []) s at [] 0 i refl)
+left_none s (took n at) i =
+    ap (map_read (λ vs. plus_needs n (needs_of [] vs))) (at_took (read_values []) s at [] 0 i.0 refl)
     ∙ rw (add-zero at, zero_plus n)
+left_none s (stops e) i = refl
 
 -- the whole row, from its place on
 left_all : (cs : List D.Column) (s : List ℕ) (at : ℕ) → judge_left cs s (took no_needs at) ≡ map_read (needs_of cs) (read_at (read_values cs) s at)
@@ -153,7 +155,7 @@ module _ (ys : List Column) (s : List ℕ) (at : ℕ) where
 
   -- what is known at a turn
   abbrev pub Judged : ℕ → RowNeeds → Type 0
-  Judged i r = ((b : List ℕ) → judge_left (left b i) s (took (needs_told r) r.next.at) ≡ answer b) × Inside (length s) r
+  Judged i r = ((b : List ℕ) → judge_left (left b i) s (row_judged_told (Ok r)) ≡ answer b) × Inside (length s) (row_judged_told (Ok r))
 
   -- and where a value was judged, or refused
   abbrev pub JudgedOn : ℕ → Result RowNeeds E.Refusal → Type 0
@@ -174,7 +176,7 @@ module _ (ys : List Column) (s : List ℕ) (at : ℕ) where
 
   -- what a step answers
   pub judging_next : (i : ℕ) (r : RowNeeds) (x : Result RowNeeds E.Refusal) (c : Column) → i < n → Judged i r → c ≡ get_or ys i no_column →
-      ((b : List ℕ) → row_judged_told x ≡ judge_on (column_told b c) s (needs_told r) r.next.at) → IfOk x (Inside (length s)) → JudgedOn (i + 1) x
+      ((b : List ℕ) → row_judged_told x ≡ judge_on (column_told b c) s (row_judged_told (Ok r))) → Inside (length s) (row_judged_told x) → JudgedOn (i + 1) x
   judging_next i r x c l z e q w = go x told w
     where
       more : (b : List ℕ) → column_told b c ∷ left b (i + 1) ≡ left b i
@@ -183,20 +185,20 @@ module _ (ys : List Column) (s : List ℕ) (at : ℕ) where
       told : (b : List ℕ) → judge_left (left b (i + 1)) s (row_judged_told x) ≡ answer b
       told b =
           ap (judge_left (left b (i + 1)) s) (q b)
-          ∙ (sym (left_more (column_told b c) (left b (i + 1)) s (needs_told r) r.next.at)
-          ∙ (ap (λ (cs : List D.Column). judge_left cs s (took (needs_told r) r.next.at)) (more b)
+          ∙ (sym (left_more (column_told b c) (left b (i + 1)) s (row_judged_told (Ok r)))
+          ∙ (ap (λ (cs : List D.Column). judge_left cs s (row_judged_told (Ok r))) (more b)
           ∙ z.0 b))
 
-      go : (y : Result RowNeeds E.Refusal) → ((b : List ℕ) → judge_left (left b (i + 1)) s (row_judged_told y) ≡ answer b) → IfOk y (Inside (length s))
-          → JudgedOn (i + 1) y
+      go : (y : Result RowNeeds E.Refusal) → ((b : List ℕ) → judge_left (left b (i + 1)) s (row_judged_told y) ≡ answer b)
+          → Inside (length s) (row_judged_told y) → JudgedOn (i + 1) y
       go (Ok m) t v = (t, v)
       go (Err d) t v = t
 
   -- behind the last turn
   pub judging_ends : (r : RowNeeds) → Judged n r → (b : List ℕ) → row_judged_told (Ok r) ≡ answer b
   judging_ends r z b =
-      sym (left_none s (needs_told r) r.next.at z.1.0)
-      ∙ (ap (λ (cs : List D.Column). judge_left cs s (took (needs_told r) r.next.at)) (sym (none_of b)) ∙ z.0 b)
+      sym (left_none s (row_judged_told (Ok r)) z.1)
+      ∙ (ap (λ (cs : List D.Column). judge_left cs s (row_judged_told (Ok r))) (sym (none_of b)) ∙ z.0 b)
     where
       none_of : (b : List ℕ) → left b n ≡ []
       none_of b = rw (none_left ys)

@@ -1,7 +1,7 @@
 // The steps of judging a row, for the crates of this repository, each on one column by value.
-ghost use Rattle.std.specs.Prelude.{◌≡◌, List, ℕ, length, IfOk};
+ghost use Rattle.std.specs.Prelude.{◌≡◌, List, ℕ, length, Ok};
 ghost use Rattle.column_type.specs.Told.{column_told};
-ghost use Rattle.judge_step.specs.Told.{needs_told, row_judged_told};
+ghost use Rattle.judge_step.specs.Told.{row_judged_told};
 ghost use Rattle.judge_step.specs.Steps.{start_of, judge_on, Inside};
 
 use crate::RowNeeds;
@@ -28,10 +28,10 @@ pub fn start(columns: usize, size: usize, cursor: Cursor) -> Result<RowNeeds, Re
 }
 
 // One value more, behind those before it.
-pub fn judge_on(c: Column, s: &[u8], row: RowNeeds) -> Result<RowNeeds, Refusal>
-    requires { Inside (length s.now) row }
-    ensures told { (b : List ℕ) → row_judged_told result ≡ judge_on (column_told b c) s.now (needs_told row) row.next.at }
-    ensures inside { IfOk result (Inside (length s.now)) }
+fn behind(c: Column, s: &[u8], row: RowNeeds) -> Result<RowNeeds, Refusal>
+    requires { Inside (length s.now) (row_judged_told (Ok row)) }
+    ensures told { (b : List ℕ) → row_judged_told result ≡ judge_on (column_told b c) s.now (row_judged_told (Ok row)) }
+    ensures inside { Inside (length s.now) (row_judged_told result) }
 {
     let at = row.next.at;
     if column_rule::keeps_rule(c) {
@@ -44,4 +44,16 @@ pub fn judge_on(c: Column, s: &[u8], row: RowNeeds) -> Result<RowNeeds, Refusal>
         });
     }
     Err(Refusal::Rule)
+}
+
+// One column's turn. A refused row stays refused.
+pub fn judge_on(c: Column, s: &[u8], state: Result<RowNeeds, Refusal>) -> Result<RowNeeds, Refusal>
+    requires { Inside (length s.now) (row_judged_told state) }
+    ensures told { (b : List ℕ) → row_judged_told result ≡ judge_on (column_told b c) s.now (row_judged_told state) }
+    ensures inside { Inside (length s.now) (row_judged_told result) }
+{
+    match state {
+        Ok(row) => behind(c, s, row),
+        Err(e) => Err(e),
+    }
 }

@@ -17,7 +17,7 @@ module _ (c : Column) (s : List ℕ) (at : ℕ) (v : Value) (n : ℕ) (h : at �
   needed : (m : Needs) → plus_needs m (needs_value c v) ≡ record { joined = m.joined; normal = m.normal + n }
   needed m = rw (w.none, length-written c s at v n h w, add-zero m.joined)
 
-  pub judged_width : (m : Needs) → took (record { joined = m.joined; normal = m.normal + n }) (at + n) ≡ judge_on c s m at
+  pub judged_width : (m : Needs) → took (record { joined = m.joined; normal = m.normal + n }) (at + n) ≡ judge_on c s (took m at)
   judged_width m =
       ap (λ (x : Needs). took x (at + n)) (sym (needed m))
       ∙ sym (ap (map_read (λ (u : Value). plus_needs m (needs_value c u))) (there_at c s at v n h w))

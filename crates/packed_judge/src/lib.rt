@@ -22,7 +22,7 @@ pub fn judge_packed(table: &[u8], s: &[u8], cursor: Cursor) -> Result<RowNeeds, 
     let columns = packed::records(table);
     let mut row = turn::start(columns, s.len(), cursor)?;
     for i in 0..columns {
-        row = inner::judge_at(table, i, s, row)?;
+        row = inner::judge_at(table, i, s, Ok(row))?;
     }
     Ok(row)
 }

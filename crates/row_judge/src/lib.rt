@@ -20,7 +20,7 @@ pub fn judge_row(cols: &[Column], s: &[u8], cursor: Cursor) -> Result<RowNeeds, 
 {
     let mut row = turn::start(cols.len(), s.len(), cursor)?;
     for c in cols {
-        row = turn::judge_on(*c, s, row)?;
+        row = turn::judge_on(*c, s, Ok(row))?;
     }
     Ok(row)
 }

@@ -1,6 +1,6 @@
 -- `packed_judge::judge_packed` meets its contract: at each turn what is left of the table's columns needs, behind the row so far, what the whole row needs
 -- (`Judged` of judge_step, over the columns that the table's records stand for). Assumes nothing.
-use Rattle.std.specs.Prelude.{Err, IfOk, Ok, Result}
+use Rattle.std.specs.Prelude.{Err, Ok, Result}
 use mathlib.Core.Path.{◌≡◌, sym, ap, ◌∙◌}
 use mathlib.Core.List.{List, []}
 use Prim.Native.Nat.{ℕ, ◌+◌, ◌<◌, ◌*◌}
@@ -13,7 +13,7 @@ use Rattle.wire.proofs.Exit.{exit_is}
 use Rattle.column_type.specs.Told.{column_told}
 use Rattle.value_weigh.specs.Told.{Needs}
 use Rattle.judge_step.specs.declared.RowNeeds.{RowNeeds}
-use Rattle.judge_step.specs.Told.{needs_of, needs_told, row_judged_told}
+use Rattle.judge_step.specs.Told.{needs_of, row_judged_told}
 use Rattle.judge_step.specs.Steps.{judge_on, start_of, Inside}
 use Rattle.judge_step.proofs.Judging.{JudgedOn, judging_begins, judging_next, judging_ends, start_refused}
 use Rattle.packed.specs.Made.{column_made, no_name, table_made}
@@ -56,8 +56,8 @@ judge_at-requires c =
 -- what the step answers
 more : (c : In-loop-i) (x : Result RowNeeds Refusal)
     → ((b : List ℕ) → row_judged_told x ≡ judge_on (column_told b (column_made (drop (16 * c.loop-i.i) c.args.table.now) no_name no_name no_name))
-    c.args.s.now (needs_told c.loop-i.row) c.loop-i.row.next.at)
-    → IfOk x (Inside (length c.args.s.now)) → JudgedOn (table_made c.args.table.now) c.args.s.now c.args.cursor.at (c.loop-i.i + 1) x
+    c.args.s.now (row_judged_told (Ok c.loop-i.row)))
+    → Inside (length c.args.s.now) (row_judged_told x) → JudgedOn (table_made c.args.table.now) c.args.s.now c.args.cursor.at (c.loop-i.i + 1) x
 more c x told inside =
     let a = c.args in
     let i = c.loop-i.i in
