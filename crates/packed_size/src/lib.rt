@@ -3,7 +3,7 @@
 #![tactic(auto)]
 
 ghost use Rattle.std.specs.Prelude.{◌≡◌, ◌+◌, ◌*◌, ◌<◌, ◌≤◌, length, None};
-ghost use Rattle.format.specs.Answer.{wrote};
+ghost use Rattle.format.specs.Answer.{gives, wrote};
 ghost use Rattle.format.specs.Row.{write_row};
 ghost use Rattle.wire.specs.Told.{answer_told};
 ghost use Rattle.packed.specs.Packed.{table_columns};
@@ -25,11 +25,11 @@ fn size_made(
     sum: usize,
 ) -> Result<usize, Refusal>
     requires { (16 * i < length table.now) × (3 * i + 3 ≤ length values.now) × (sum ≤ 1024 * most_of) }
-    ensures { answer_told result ≡ size_on sum (written_at table.now values.now buffer.now i) }
+    ensures { answer_told result ≡ size_on (gives sum) (written_at table.now values.now buffer.now i) }
 {
     let c = inner::column_at(table, i);
     let v = value::value_at(values, i);
-    turn::size_on(c, v, buffer, sum)
+    turn::size_on(c, v, buffer, Ok(sum))
 }
 
 // The same, by the numbers alone where they tell it.
@@ -41,7 +41,7 @@ fn size_at(
     sum: usize,
 ) -> Result<usize, Refusal>
     requires { (16 * i < length table.now) × (3 * i + 3 ≤ length values.now) × (sum ≤ 1024 * most_of) }
-    ensures { answer_told result ≡ size_on sum (written_at table.now values.now buffer.now i) }
+    ensures { answer_told result ≡ size_on (gives sum) (written_at table.now values.now buffer.now i) }
 {
     match plain_write::inner::plain_at(table, i, values[3 * i]) {
         Some((_, n)) => Ok(sum + n),

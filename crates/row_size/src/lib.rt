@@ -19,7 +19,7 @@ pub fn row_size(cols: &[Column], values: &[Value], buffer: &[u8]) -> Result<usiz
 {
     let mut sum = turn::start(cols.len(), values.len())?;
     for (c, v) in cols.iter().zip(values) {
-        sum = turn::size_on(*c, *v, buffer, sum)?;
+        sum = turn::size_on(*c, *v, buffer, Ok(sum))?;
     }
     Ok(sum)
 }

@@ -1,11 +1,12 @@
 -- The size pass of a row, turn by turn: what is left of the columns and values gives, behind the size so far, what all of them give.
--- Why it holds: `write_values` takes a column and a value from the left at each turn as the pass does, and both end at the first refusal; the counts were
--- judged before the first turn. The size so far is that of as many values as turns, so it stays below the bound of 1,024 of them.
+-- Why it holds: `write_values` takes a column and a value from the left at each turn as the pass does, and both end at the first refusal; a refused row stays
+-- refused, and the counts were judged before the first turn. The size so far is that of as many values as turns, so it stays below the bound of 1,024 of
+-- them.
 -- Assumes nothing.
 use mathlib.Core.Path.{◌≡◌, refl, sym, ap, ◌∙◌}
 use mathlib.Core.Bool.{Bool, true, false, not}
 use mathlib.Core.List.{List, []}
-use Prim.Native.Nat.{ℕ, ◌+◌, ◌*◌, ◌<◌, ◌≤◌}
+use Prim.Native.Nat.{ℕ, ◌+◌, ◌<◌, ◌≤◌}
 use native.Mathlib.Omega.{arith}
 use native.Mathlib.Nat.{add-zero, zero-add, add_assoc}
 use lib.ListN.{length, get_or, drop, length-map, length-append}
@@ -22,20 +23,26 @@ use Rattle.value_kind.specs.declared.Value.{Value}
 use Rattle.value_kind.specs.Told.{value_told}
 use Rattle.columns.specs.None.{no_column, no_value}
 use Rattle.columns.specs.Told.{columns_told, values_told}
-use Rattle.row_step.specs.Steps.{start_of, size_on, most_of}
+use Rattle.row_step.specs.Steps.{start_of, size_on, Below}
 use Rattle.row_step.proofs.Most.{most}
 use Rattle.columns.proofs.Taken.{left_at, none_left}
 
 -- ---- sums of sizes
 
 -- a value, and the others behind it
-on_more : (at : ℕ) (a b : Answer (List ℕ)) → size_on at (and_then a (join_two b)) ≡ and_then (size_on at a) (λ (k : ℕ). size_on k b)
-on_more at (gives x) (gives y) = ap gives (ap (λ (k : ℕ). at + k) (length-append x y) ∙ sym (add_assoc at (length x) (length y)))
-on_more at (gives x) (refuses e) = refl
-on_more at (refuses e) b = refl
+on_more : (s : Answer ℕ) (a b : Answer (List ℕ)) → size_on s (and_then a (join_two b)) ≡ size_on (size_on s a) b
+on_more (gives at) (gives x) (gives y) = ap gives (ap (λ (k : ℕ). at + k) (length-append x y) ∙ sym (add_assoc at (length x) (length y)))
+on_more (gives at) (gives x) (refuses e) = refl
+on_more (gives at) (refuses e) b = refl
+on_more (refuses e) a b = refl
+
+-- no value more
+on_none : (s : Answer ℕ) → size_on s (gives []) ≡ s
+on_none (gives at) = ap gives (add-zero at)
+on_none (refuses e) = refl
 
 -- from nothing
-on_first : (a : Answer (List ℕ)) → size_on 0 a ≡ wrote a
+on_first : (a : Answer (List ℕ)) → size_on (gives 0) a ≡ wrote a
 unfolding wrote
 on_first (gives x) = ap gives (zero-add (length x))
 on_first (refuses e) = refl
@@ -96,7 +103,7 @@ module _ (buffer : List ℕ) (ys : List Column) (zs : List Value) where
 
   -- what is known at a turn: the sum so far, with the sizes of what is left, is the row's size
   abbrev pub Sized : ℕ → ℕ → Type 0
-  Sized i at = (size_on at (left i) ≡ wrote all) × (at ≤ i * most_of)
+  Sized i at = (size_on (gives at) (left i) ≡ wrote all) × Below i (gives at)
 
   -- and where a value's size was found, or refused
   abbrev pub SizedOn : ℕ → Answer ℕ → Type 0
@@ -109,25 +116,26 @@ module _ (buffer : List ℕ) (ys : List Column) (zs : List Value) where
       (rw e (on_first all), omega (arith, e))
 
   -- a sum is small enough to be added to
-  pub sizing_asks : (k i at : ℕ) → start_of n m ≡ gives k → i < n → Sized i at → at ≤ 1024 * most_of
+  pub sizing_asks : (k i at : ℕ) → start_of n m ≡ gives k → i < n → Sized i at → Below 1024 (gives at)
   sizing_asks k i at h l z = omega (arith, (counted k h).0, l, z.1)
 
-  sizing_goes : (i at : ℕ) → i < n → i < m → Sized i at → SizedOn (i + 1) (size_on at (here i))
+  sizing_goes : (i at : ℕ) → i < n → i < m → Sized i at → SizedOn (i + 1) (size_on (gives at) (here i))
   sizing_goes i at l k z = go (here i) refl
     where
       d : D.Column
       d = column_told buffer (get_or ys i no_column)
 
-      whole : and_then (size_on at (here i)) (λ (x : ℕ). size_on x (left (i + 1))) ≡ wrote all
-      whole = sym (on_more at (here i) (left (i + 1))) ∙ ap (size_on at) (sym (more i l k)) ∙ z.0
+      whole : size_on (size_on (gives at) (here i)) (left (i + 1)) ≡ wrote all
+      whole = sym (on_more (gives at) (here i) (left (i + 1))) ∙ ap (size_on (gives at)) (sym (more i l k)) ∙ z.0
 
-      go : (a : Answer (List ℕ)) → here i ≡ a → SizedOn (i + 1) (size_on at a)
+      go : (a : Answer (List ℕ)) → here i ≡ a → SizedOn (i + 1) (size_on (gives at) a)
       go (gives x) e = (rw e at whole, omega (arith, most buffer d (get_or zs i no_value) x e, z.1))
       go (refuses r) e = rw e at whole
 
   -- the same of what a step answers
   pub sizing_next : (i at : ℕ) (r : Answer ℕ) (c : Column) (v : Value) → i < n → i < m → Sized i at →
-      c ≡ get_or ys i no_column → v ≡ get_or zs i no_value → r ≡ size_on at (write_value (column_told buffer c) (value_told buffer v)) → SizedOn (i + 1) r
+      c ≡ get_or ys i no_column → v ≡ get_or zs i no_value → r ≡ size_on (gives at) (write_value (column_told buffer c) (value_told buffer v))
+      → SizedOn (i + 1) r
   sizing_next i at r c v l k z e f q = rw (q, e, f) (sizing_goes i at l k z)
 
   -- none is left
@@ -137,7 +145,7 @@ module _ (buffer : List ℕ) (ys : List Column) (zs : List Value) where
 
   -- behind the last turn
   pub sizing_ends : (k at : ℕ) → start_of n m ≡ gives k → Sized n at → gives at ≡ wrote asked
-  sizing_ends k at h z = ap gives (sym (add-zero at)) ∙ ap (size_on at) (sym none) ∙ z.0 ∙ ap wrote (sym (counted k h).3)
+  sizing_ends k at h z = sym (on_none (gives at)) ∙ ap (size_on (gives at)) (sym none) ∙ z.0 ∙ ap wrote (sym (counted k h).3)
 
   -- at a value that was refused, and at counts that were
   pub sizing_refused : (k : ℕ) (e : Refusal) → start_of n m ≡ gives k → refuses e ≡ wrote all → refuses e ≡ wrote asked

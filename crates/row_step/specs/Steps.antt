@@ -1,5 +1,5 @@
 -- Writing a row as the code goes: the counts, one size more, one value more. proofs/Sizing.antt and proofs/Filling.antt tie these to `write_row`.
-use Rattle.std.specs.Prelude.{ℕ, ◌+◌, ◌≤◌, List, [], not, length, ltb, eqb}
+use Rattle.std.specs.Prelude.{ℕ, ◌+◌, ◌*◌, ◌≤◌, List, [], not, length, ltb, eqb}
 use Rattle.format.specs.Answer.{Answer, gives, refuses, rule, refuse_if}
 use Rattle.format.specs.Row.{max_columns}
 
@@ -8,13 +8,19 @@ abbrev pub start_of : ℕ → ℕ → Answer ℕ
 start_of columns values = refuse_if (ltb max_columns columns) rule (refuse_if (not (eqb columns values)) rule (gives 0))
 
 -- the row's size so far, and one value more
-abbrev pub size_on : ℕ → Answer (List ℕ) → Answer ℕ
-size_on at (gives bytes) = gives (at + length bytes)
-size_on at (refuses e) = refuses e
+abbrev pub size_on : Answer ℕ → Answer (List ℕ) → Answer ℕ
+size_on (gives at) (gives bytes) = gives (at + length bytes)
+size_on (gives at) (refuses e) = refuses e
+size_on (refuses e) a = refuses e
 
 -- No value takes more: content is no longer than its declared length, which has at most four bytes.
 abbrev pub most_of : ℕ
 most_of = 8589934592
+
+-- the size of that many values
+abbrev pub Below : ℕ → Answer ℕ → Type 0
+Below turns (gives n) = n ≤ turns * most_of
+Below turns (refuses e) = Unit {0}
 
 -- the bytes that an answer gives, and none where it refuses
 abbrev pub bytes_in : Answer (List ℕ) → List ℕ

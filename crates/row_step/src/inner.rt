@@ -1,12 +1,12 @@
 // The steps of both passes, for the crates of this repository, each on one column and one value by
 // value.
-ghost use Rattle.std.specs.Prelude.{◌≡◌, ◌+◌, ◌*◌, ◌≤◌, length};
+ghost use Rattle.std.specs.Prelude.{◌≡◌, ◌+◌, length};
 ghost use Rattle.lists.specs.Put.{put_at};
 ghost use Rattle.format.specs.Value.{write_value};
 ghost use Rattle.wire.specs.Told.{answer_told};
 ghost use Rattle.column_type.specs.Told.{column_told};
 ghost use Rattle.value_kind.specs.Told.{value_told};
-ghost use Rattle.row_step.specs.Steps.{start_of, size_on, most_of, FitsAt, bytes_in};
+ghost use Rattle.row_step.specs.Steps.{start_of, size_on, Below, FitsAt, bytes_in};
 
 use column_type::Column;
 use value_kind::Value;
@@ -26,11 +26,17 @@ pub fn start(columns: usize, values: usize) -> Result<usize, Refusal>
     Ok(0)
 }
 
-// One value's size more, behind a sum of values' sizes.
-pub fn size_on(c: Column, v: Value, buffer: &[u8], sum: usize) -> Result<usize, Refusal>
-    requires { sum ≤ 1024 * most_of }
-    ensures { answer_told result ≡ size_on sum (write_value (column_told buffer.now c) (value_told buffer.now v)) }
+// One value's size more. A refused row stays refused.
+pub fn size_on(
+    c: Column,
+    v: Value,
+    buffer: &[u8],
+    s: Result<usize, Refusal>,
+) -> Result<usize, Refusal>
+    requires { Below 1024 (answer_told s) }
+    ensures { answer_told result ≡ size_on (answer_told s) (write_value (column_told buffer.now c) (value_told buffer.now v)) }
 {
+    let sum = s?;
     let n = value_write::value_size(c, v, buffer)?;
     Ok(sum + n)
 }

@@ -65,7 +65,7 @@ size_at-requires c =
     )
 
 -- what the step answers
-more : (c : In-loop-i) (r : Answer ℕ) → r ≡ size_on c.loop-i.sum (written_at c.args.table.now c.args.values.now c.args.buffer.now c.loop-i.i)
+more : (c : In-loop-i) (r : Answer ℕ) → r ≡ size_on (gives c.loop-i.sum) (written_at c.args.table.now c.args.values.now c.args.buffer.now c.loop-i.i)
     → SizedOn c.args.buffer.now (table_made c.args.table.now) (givens_made c.args.values.now) (c.loop-i.i + 1) r
 more c r e =
     let a = c.args in

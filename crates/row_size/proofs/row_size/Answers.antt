@@ -1,7 +1,7 @@
 -- `row_size::row_size` meets its contract: a turn takes a column and a value, and the steps' laws of row_step say what is left. Assumes nothing.
 use Rattle.std.proofs.Common.{◌≡◌, ℕ, ◌+◌, ◌<◌, [], ◌∷◌, length, get_or, sym, subst, arith, length-append}
 use Rattle.std.proofs.lemmas.Slice.Zip.{zip_turn, zip_end}
-use Rattle.format.specs.Answer.{Answer}
+use Rattle.format.specs.Answer.{Answer, gives}
 use Rattle.format.specs.Value.{write_value}
 use Rattle.wire.proofs.Exit.{exit_is}
 use Rattle.column_type.specs.Told.{column_told}
@@ -38,7 +38,7 @@ size_on-requires c =
 
 -- what the step answers
 more : (c : In-Some) (r : Answer ℕ)
-    → r ≡ size_on c.loop-c.sum (write_value (column_told c.args.buffer.now c.in-Some.c.now) (value_told c.args.buffer.now c.in-Some.v.now))
+    → r ≡ size_on (gives c.loop-c.sum) (write_value (column_told c.args.buffer.now c.in-Some.c.now) (value_told c.args.buffer.now c.in-Some.v.now))
     → SizedOn c.args.buffer.now c.args.cols.now c.args.values.now (length c.loop-c.yielded + 1) r
 more c r e =
     let t = turn c in
