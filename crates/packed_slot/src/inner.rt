@@ -6,7 +6,7 @@ ghost use Rattle.value_found.specs.Told.{stand_told, found_told, CanonicalFound}
 ghost use Rattle.packed_slot.specs.Slots.{scalar_slot, content_slot, slot_of, slot_told};
 
 use bits::signed;
-use packed_value::Slot;
+use packed_value::{Slot, inner};
 use value_found::{Found, Stand};
 use value_kind::Scalar;
 
@@ -14,14 +14,14 @@ use value_kind::Scalar;
 fn wide16(z: i16) -> u64
     ensures { result ≡ unsigned 8 z }
 {
-    signed::of_i64(i64::from(z))
+    inner::widen_two(signed::of_i16(z))
 }
 
 // Of four bytes.
 fn wide32(z: i32) -> u64
     ensures { result ≡ unsigned 8 z }
 {
-    signed::of_i64(i64::from(z))
+    inner::widen_four(signed::of_i32(z))
 }
 
 // A kind's number and one more.
