@@ -44,7 +44,7 @@ pub fn fill_at(
     let v = Slot::at(values, 3 * i);
     match plain_write::inner::plain_at(table, i, v.kind) {
         Some((p, n)) => {
-            plain_write::inner::put_in(out, at, p, v);
+            plain_write::inner::put_in(out, at, Some(p), v);
             at + n
         }
         None => fill_made(out, table, values, buffer, i, at),

@@ -1,5 +1,6 @@
 -- One value's turn: a value that was taken under a column that was made, and one whose width the record tells.
 -- Assumes nothing.
+use Rattle.std.specs.Prelude.{None, Option, Some}
 use mathlib.Core.Path.{◌≡◌, refl, sym, ap, ◌∙◌}
 use mathlib.Core.Bool.{Bool, true, false}
 use mathlib.Core.List.{List, []}
@@ -36,21 +37,22 @@ taken_of d (took v n) p at values out values' out' f next h w o =
 taken_of d (stops e) p at values out values' out' f next h w o = clash cc
 
 -- the numbers of null and of a scalar are those of what is found
-slot_found : (p : Plain) (rest : List ℕ) (d : D.Column) (at copied : ℕ) → value_slot (value_in p rest) ≡ slot_of (found_of d at copied (value_in p rest))
-slot_found (P.Bare k) rest d at copied = refl
-slot_found (P.Counted k) rest d at copied = go (eqb (get_or rest 0 0) 0)
+slot_found : (p : Option Plain) (rest : List ℕ) (d : D.Column) (at copied : ℕ) → value_slot (value_in p rest) ≡ slot_of (found_of d at copied (value_in p rest))
+slot_found (Some (P.Bare k)) rest d at copied = refl
+slot_found (Some (P.Counted k)) rest d at copied = go (eqb (get_or rest 0 0) 0)
   where
     go : (b : Bool) →
-        let v = pick b Value.null (value_in (P.Bare k) (drop 1 rest)) in value_slot v ≡ slot_of (found_of d at copied v)
+        let v = pick b Value.null (value_in (Some (P.Bare k)) (drop 1 rest)) in value_slot v ≡ slot_of (found_of d at copied v)
     go true = refl
     go false = refl
+slot_found None rest d at copied = refl
 
 put_none : (out : List ℕ) (o : ℕ) → out ≡ put_at out o []
 unfolding put_at
 put_none out o = sym (rw (add-zero o) (take-append-drop o out))
 
 -- of a width that the record tells
-module _ (d : D.Column) (s : List ℕ) (p : Place) (told : Plain) (n : ℕ) (h : p.at ≤ length s)
+module _ (d : D.Column) (s : List ℕ) (p : Place) (told : Option Plain) (n : ℕ) (h : p.at ≤ length s)
     (w : Stands d (drop p.at s) (value_in told (drop p.at s)) n) where
   pub taken-width : (at : ℕ) (values out values' : List ℕ) → values' ≡ put_at values at (value_slot (value_in told (drop p.at s)))
       → Taken d (read_at (read_value d) s p.at) p at values out values' out (record { at = p.at + n; copied = p.copied })

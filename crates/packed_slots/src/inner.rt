@@ -71,7 +71,7 @@ fn take_at(
     let at = place.cursor.at;
     match plain_look::inner::look_at(table, i, s, at) {
         Some((p, n)) => {
-            store(values, 3 * i, plain_slot::inner::slot_in(p, s, at));
+            store(values, 3 * i, plain_slot::inner::slot_in(Some(p), s, at));
             RowPlace {
                 cursor: Cursor { at: at + n },
                 copied: place.copied,

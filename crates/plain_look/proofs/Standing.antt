@@ -153,17 +153,17 @@ counted-stands k s n b h =
 -- ---- what the code answers
 
 module _ (k : K.Kind) where
-  pub bare-width : (w : ℕ) (rest : List ℕ) → w ≡ width (kind_told k) → Bytes rest → w ≤ length rest → IsWidth (P.Bare k) rest (Some w)
+  pub bare-width : (w : ℕ) (rest : List ℕ) → w ≡ width (kind_told k) → Bytes rest → w ≤ length rest → IsWidth (Some (P.Bare k)) rest (Some w)
   bare-width w rest e b h c said =
       let l : width (kind_told k) ≤ length rest = rw e at h in
       (rw (said.0, e) (bare-stands (kind_told k) rest said.1 b l), (l, said.1.1))
 
-  pub null-width : (rest : List ℕ) → 0 < length rest → get_or rest 0 0 ≡ 0 → IsWidth (P.Counted k) rest (Some 1)
+  pub null-width : (rest : List ℕ) → 0 < length rest → get_or rest 0 0 ≡ 0 → IsWidth (Some (P.Counted k)) rest (Some 1)
   null-width [] l e c said = absurd (omega (arith, l))
   null-width (x ∷ rest) l e c said = (rw (said.0, e) (null-stands (kind_told k) rest), (l, λ z. absurd (z e), said.1))
 
   pub counted-width : (w : ℕ) (rest : List ℕ) → get_or rest 0 0 ≡ w → w ≡ width (kind_told k) → (w ≡ 0 → ⊥) → Bytes rest → w < length rest
-      → IsWidth (P.Counted k) rest (Some (1 + w))
+      → IsWidth (Some (P.Counted k)) rest (Some (1 + w))
   counted-width w [] f e z b l c said = absurd (omega (arith, l))
   counted-width w (x ∷ rest) f e z b l c said =
       let t : eqb x 0 ≡ false = ne_eqb x 0 (λ q. z (sym f ∙ q)) in (

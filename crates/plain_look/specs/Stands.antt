@@ -6,7 +6,7 @@ use Rattle.format.specs.Descriptor.{Column}
 use Rattle.format.specs.Scalar.{Kind, width, scalar_of}
 use Rattle.format.specs.Value.{Value, read_value, copied_out, encode}
 use Rattle.value_kind.specs.Told.{kind_told}
-use Rattle.packed_plain.specs.Says.{Says}
+use Rattle.packed_plain.specs.Says.{Tells}
 use Rattle.packed_plain.specs.declared.Plain.{Plain}
 use Rattle.packed_plain.specs.declared.Plain.TheVariants as P
 
@@ -17,27 +17,29 @@ pub record Stands (c : Column) (rest : List ℕ) (v : Value) (n : ℕ) : Type 0 
   pub inside : n ≤ length rest
   pub none : copied_out c v ≡ []
 
--- the value
+-- the value; where nothing was told of the column it is null, and no count is told
 abbrev pub scalar_in : Kind → List ℕ → Value
 scalar_in k rest = Value.scalar (scalar_of k (take (width k) rest))
 
-abbrev pub value_in : Plain → List ℕ → Value
-value_in (P.Bare k) rest = scalar_in (kind_told k) rest
-value_in (P.Counted k) rest = pick (eqb (get_or rest 0 0) 0) Value.null (scalar_in (kind_told k) (drop 1 rest))
+abbrev pub value_in : Option Plain → List ℕ → Value
+value_in (Some (P.Bare k)) rest = scalar_in (kind_told k) rest
+value_in (Some (P.Counted k)) rest = pick (eqb (get_or rest 0 0) 0) Value.null (scalar_in (kind_told k) (drop 1 rest))
+value_in None rest = Value.null
 
 -- its bytes are there, and it is no bit
-abbrev pub HasBytes : Plain → List ℕ → Type 0
-HasBytes (P.Bare k) rest = (width (kind_told k) ≤ length rest) × (kind_told k ≡ Kind.bit → ⊥)
-HasBytes (P.Counted k) rest = (0 < length rest) × ((get_or rest 0 0 ≡ 0 → ⊥) → 1 + width (kind_told k) ≤ length rest) × (kind_told k ≡ Kind.bit → ⊥)
+abbrev pub HasBytes : Option Plain → List ℕ → Type 0
+HasBytes (Some (P.Bare k)) rest = (width (kind_told k) ≤ length rest) × (kind_told k ≡ Kind.bit → ⊥)
+HasBytes (Some (P.Counted k)) rest = (0 < length rest) × ((get_or rest 0 0 ≡ 0 → ⊥) → 1 + width (kind_told k) ≤ length rest) × (kind_told k ≡ Kind.bit → ⊥)
+HasBytes None rest = Unit {0}
 
 -- a width that is told is the value's
-abbrev pub IsWidth : Plain → List ℕ → Option ℕ → Type 0
+abbrev pub IsWidth : Option Plain → List ℕ → Option ℕ → Type 0
 IsWidth p rest None = Unit {0}
-IsWidth p rest (Some n) = (c : Column) → Says p c → (Stands c rest (value_in p rest) n × HasBytes p rest)
+IsWidth p rest (Some n) = (c : Column) → Tells p c → (Stands c rest (value_in p rest) n × HasBytes p rest)
 
 abbrev pub IsLook : Column → List ℕ → Option (Plain × ℕ) → Type 0
 IsLook c rest None = Unit {0}
-IsLook c rest (Some (p, n)) = Stands c rest (value_in p rest) n × HasBytes p rest
+IsLook c rest (Some (p, n)) = Stands c rest (value_in (Some p) rest) n × HasBytes (Some p) rest
 
 abbrev pub IsWidthIn : Column → List ℕ → Option ℕ → Type 0
 IsWidthIn c rest None = Unit {0}

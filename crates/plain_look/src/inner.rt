@@ -1,6 +1,6 @@
 // The width of a value that is there, for the crates of this repository; none where the column must
 // be made and the value looked at. An answer of none is never wrong.
-ghost use Rattle.std.specs.Prelude.{◌*◌, ◌<◌, ◌≤◌, length, drop};
+ghost use Rattle.std.specs.Prelude.{◌*◌, ◌<◌, ◌≤◌, length, drop, Some};
 ghost use Rattle.packed.specs.Packed.{column_of, no_names};
 ghost use Rattle.packed_plain.specs.declared.Plain.TheVariants as P;
 ghost use Rattle.plain_look.specs.Stands.{IsLook, IsWidth, IsWidthIn};
@@ -11,7 +11,7 @@ use value_kind::kinds::Kind;
 // The bytes alone.
 fn bare(k: Kind, s: &[u8], at: usize) -> Option<usize>
     requires { at ≤ length s.now }
-    ensures { IsWidth (P.Bare k) (drop at s.now) result }
+    ensures { IsWidth (Some (P.Bare k)) (drop at s.now) result }
 {
     let w = k.bytes();
     if s.len() - at < w {
@@ -23,7 +23,7 @@ fn bare(k: Kind, s: &[u8], at: usize) -> Option<usize>
 // Null, or the bytes behind their count.
 fn counted(k: Kind, s: &[u8], at: usize) -> Option<usize>
     requires { at ≤ length s.now }
-    ensures { IsWidth (P.Counted k) (drop at s.now) result }
+    ensures { IsWidth (Some (P.Counted k)) (drop at s.now) result }
 {
     let there = s.len() - at;
     if there == 0 {
@@ -42,14 +42,15 @@ fn counted(k: Kind, s: &[u8], at: usize) -> Option<usize>
     Some(1 + n)
 }
 
-// The value at a place, under what was told of its column.
-fn width_in(p: Plain, s: &[u8], at: usize) -> Option<usize>
+// The value at a place, under what was told of its column; none where nothing was told.
+pub fn width_in(p: Option<Plain>, s: &[u8], at: usize) -> Option<usize>
     requires { at ≤ length s.now }
     ensures { IsWidth p (drop at s.now) result }
 {
     match p {
-        Plain::Bare(k) => bare(k, s, at),
-        Plain::Counted(k) => counted(k, s, at),
+        Some(Plain::Bare(k)) => bare(k, s, at),
+        Some(Plain::Counted(k)) => counted(k, s, at),
+        None => None,
     }
 }
 
@@ -59,7 +60,7 @@ pub fn look_at(table: &[u8], i: usize, s: &[u8], at: usize) -> Option<(Plain, us
     ensures { IsLook (column_of (drop (16 * i) table.now) no_names) (drop at s.now) result }
 {
     let p = packed_plain::inner::plain_at(table, i)?;
-    let n = width_in(p, s, at)?;
+    let n = width_in(Some(p), s, at)?;
     Some((p, n))
 }
 

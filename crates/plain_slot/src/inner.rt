@@ -1,5 +1,5 @@
 // The numbers of a value that is there, for the crates of this repository.
-ghost use Rattle.std.specs.Prelude.{◌≡◌, ◌+◌, ◌≤◌, length, take, drop};
+ghost use Rattle.std.specs.Prelude.{◌≡◌, ◌+◌, ◌≤◌, length, take, drop, Some};
 ghost use Rattle.format.specs.Scalar.{width, scalar_of};
 ghost use Rattle.format.specs.Scalar as S;
 ghost use Rattle.value_kind.specs.Told.{kind_told};
@@ -46,8 +46,8 @@ fn slot_at(k: Kind, s: &[u8], at: usize) -> Slot
 
 // Null, or the kind behind its count.
 fn counted_slot(k: Kind, s: &[u8], at: usize) -> Slot
-    requires { HasBytes (P.Counted k) (drop at s.now) }
-    ensures { slot_told result ≡ value_slot (value_in (P.Counted k) (drop at s.now)) }
+    requires { HasBytes (Some (P.Counted k)) (drop at s.now) }
+    ensures { slot_told result ≡ value_slot (value_in (Some (P.Counted k)) (drop at s.now)) }
 {
     if s[at] == 0 {
         return slot::one(0, 0);
@@ -55,13 +55,14 @@ fn counted_slot(k: Kind, s: &[u8], at: usize) -> Slot
     slot_at(k, s, at + 1)
 }
 
-// The value at a place, under what was told of its column.
-pub fn slot_in(p: Plain, s: &[u8], at: usize) -> Slot
+// The value at a place, under what was told of its column; null where nothing was told.
+pub fn slot_in(p: Option<Plain>, s: &[u8], at: usize) -> Slot
     requires { HasBytes p (drop at s.now) }
     ensures { slot_told result ≡ value_slot (value_in p (drop at s.now)) }
 {
     match p {
-        Plain::Bare(k) => slot_at(k, s, at),
-        Plain::Counted(k) => counted_slot(k, s, at),
+        Some(Plain::Bare(k)) => slot_at(k, s, at),
+        Some(Plain::Counted(k)) => counted_slot(k, s, at),
+        None => slot::one(0, 0),
     }
 }

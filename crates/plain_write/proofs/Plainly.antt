@@ -1,6 +1,7 @@
 -- Values of one width under the columns that have them, by their numbers: what is written, and how many bytes.
 -- Why it holds: kind by kind the definitions compute, and a number's low bytes are those of what is left of it at the width.
 -- Assumes nothing.
+use Rattle.std.specs.Prelude.{Option, Some}
 use mathlib.Core.Path.{◌≡◌, refl, sym, ap, ◌∙◌}
 use mathlib.Core.Bool.{false, not}
 use mathlib.Core.List.{List, [], ◌∷◌, ◌++◌}
@@ -26,7 +27,7 @@ use Rattle.packed.specs.Packed.{column_of, no_names}
 use Rattle.packed.proofs.Told.{plain_told}
 use Rattle.packed_value.specs.Numbers.{narrow, value_of}
 use Rattle.packed_value.proofs.Told.{value_told_lem}
-use Rattle.packed_plain.specs.Says.{bare_column, counted_column, IsBare, Says}
+use Rattle.packed_plain.specs.Says.{bare_column, counted_column, IsBare, Tells}
 use Rattle.packed_plain.specs.declared.Plain.{Plain}
 use Rattle.packed_plain.specs.declared.Plain.TheVariants as P
 use Rattle.plain_write.specs.Bytes.{kind_bytes, plain_bytes, Takes, Sizes, written_at}
@@ -142,10 +143,10 @@ null_is buffer first second = refl
 -- ---- behind a count
 
 module _ (k : K.Kind) (kind first second : ℕ) where
-  pub null-bytes : kind ≡ 0 → plain_bytes (P.Counted k) kind first second ≡ 0 ∷ []
+  pub null-bytes : kind ≡ 0 → plain_bytes (Some (P.Counted k)) kind first second ≡ 0 ∷ []
   null-bytes e = rw e
 
-  pub counted-bytes : (kind ≡ 0 → ⊥) → plain_bytes (P.Counted k) kind first second ≡ width (kind_told k) ∷ kind_bytes (kind_told k) first second
+  pub counted-bytes : (kind ≡ 0 → ⊥) → plain_bytes (Some (P.Counted k)) kind first second ≡ width (kind_told k) ∷ kind_bytes (kind_told k) first second
   counted-bytes z = rw (ne_eqb kind 0 z)
 
 -- the count, then the bytes
@@ -155,7 +156,7 @@ counted_put out mid after bs at w n e f g = rw (f, e, ← g) (sets_then out at (
 -- ---- what the code answers
 
 module _ (k : K.Kind) (kind : ℕ) where
-  pub bare_size : (w : ℕ) → kind ≡ place (kind_told k) → w ≡ width (kind_told k) → Sizes (P.Bare k) kind w
+  pub bare_size : (w : ℕ) → kind ≡ place (kind_told k) → w ≡ width (kind_told k) → Sizes (Some (P.Bare k)) kind w
   bare_size w e f c said buffer first second l =
       record {
         written = rw (said.0, e, given_is first second buffer (kind_told k))
@@ -163,14 +164,14 @@ module _ (k : K.Kind) (kind : ℕ) where
         counted = length-kind (kind_told k) first second ∙ sym f;
       }
 
-  pub null_size : kind ≡ 0 → Sizes (P.Counted k) kind 1
+  pub null_size : kind ≡ 0 → Sizes (Some (P.Counted k)) kind 1
   null_size e c said buffer first second l =
       record {
         written = rw (said.0, e, null_is buffer first second) (null-written (kind_told k));
         counted = rw e;
       }
 
-  pub counted_size : (w : ℕ) → (kind ≡ 0 → ⊥) → kind ≡ place (kind_told k) → w ≡ width (kind_told k) → Sizes (P.Counted k) kind (1 + w)
+  pub counted_size : (w : ℕ) → (kind ≡ 0 → ⊥) → kind ≡ place (kind_told k) → w ≡ width (kind_told k) → Sizes (Some (P.Counted k)) kind (1 + w)
   counted_size w z e f c said buffer first second l =
       let t : eqb kind 0 ≡ false = ne_eqb kind 0 z in
       let b = bytes_are first second (kind_told k) said.1 l in
@@ -203,7 +204,7 @@ module _ (table values buffer : List ℕ) (i : ℕ) where
       )
       (rw (get_or-drop at values 0 0, get_or-drop at values 1 0, get_or-drop at values 2 0, add-zero at))
 
-  pub taken_at : (p : Plain) (n : ℕ) → Says p (column_of (drop (16 * i) table) no_names) → Sizes p kind_at n → first_at < 256 ^ 8
+  pub taken_at : (p : Option Plain) (n : ℕ) → Tells p (column_of (drop (16 * i) table) no_names) → Sizes p kind_at n → first_at < 256 ^ 8
       → Takes (written_at table values buffer i) (plain_bytes p kind_at first_at second_at) n
   taken_at p n said size l =
       rw as_numbers (size (column_of (drop (16 * i) table) no_names) said buffer first_at second_at l)

@@ -12,7 +12,7 @@ use Rattle.value_kind.specs.Told.{kind_told, value_told}
 use Rattle.packed.specs.Made.{column_made, no_name}
 use Rattle.packed_value.specs.Numbers.{value_of}
 use Rattle.packed_value.specs.Made.{given_made}
-use Rattle.packed_plain.specs.Says.{Says}
+use Rattle.packed_plain.specs.Says.{Says, Tells}
 use Rattle.packed_plain.specs.declared.Plain.{Plain}
 use Rattle.packed_plain.specs.declared.Plain.TheVariants as P
 
@@ -27,10 +27,11 @@ kind_bytes Kind.f32 first second = low_bytes 4 first
 kind_bytes Kind.f64 first second = low_bytes 8 first
 kind_bytes Kind.guid first second = guid_order (high_bytes 8 first ++ high_bytes 8 second)
 
--- alone; null, or behind their count
-abbrev pub plain_bytes : Plain → ℕ → ℕ → ℕ → List ℕ
-plain_bytes (P.Bare k) kind first second = kind_bytes (kind_told k) first second
-plain_bytes (P.Counted k) kind first second = pick (eqb kind 0) (0 ∷ []) (width (kind_told k) ∷ kind_bytes (kind_told k) first second)
+-- alone; null, or behind their count; none where nothing was told of the column
+abbrev pub plain_bytes : Option Plain → ℕ → ℕ → ℕ → List ℕ
+plain_bytes (Some (P.Bare k)) kind first second = kind_bytes (kind_told k) first second
+plain_bytes (Some (P.Counted k)) kind first second = pick (eqb kind 0) (0 ∷ []) (width (kind_told k) ∷ kind_bytes (kind_told k) first second)
+plain_bytes None kind first second = []
 
 -- an answer is these bytes, n of them
 pub record Takes (a : Answer (List ℕ)) (bytes : List ℕ) (n : ℕ) : Type 0 where
@@ -38,19 +39,19 @@ pub record Takes (a : Answer (List ℕ)) (bytes : List ℕ) (n : ℕ) : Type 0 w
   pub counted : length bytes ≡ n
 
 -- The count is the value's, whatever its other numbers are.
-abbrev pub Sizes : Plain → ℕ → ℕ → Type 0
+abbrev pub Sizes : Option Plain → ℕ → ℕ → Type 0
 Sizes p kind n =
-    (c : Column) → Says p c → (buffer : List ℕ) (first second : ℕ) → first < 256 ^ 8
+    (c : Column) → Tells p c → (buffer : List ℕ) (first second : ℕ) → first < 256 ^ 8
     → Takes (write_value c (value_of buffer kind first second)) (plain_bytes p kind first second) n
 
-abbrev pub IsSize : Plain → ℕ → Option ℕ → Type 0
+abbrev pub IsSize : Option Plain → ℕ → Option ℕ → Type 0
 IsSize p kind None = Unit {0}
 IsSize p kind (Some n) = (n ≤ 17) × Sizes p kind n
 
 -- the same of what is told of a column
 abbrev pub IsPlain : Column → ℕ → Option (Plain × ℕ) → Type 0
 IsPlain c kind None = Unit {0}
-IsPlain c kind (Some (p, n)) = Says p c × (n ≤ 17) × Sizes p kind n
+IsPlain c kind (Some (p, n)) = Says p c × (n ≤ 17) × Sizes (Some p) kind n
 
 -- the value at i under the column at i, as the code makes both
 abbrev pub written_at : List ℕ → List ℕ → List ℕ → ℕ → Answer (List ℕ)

@@ -1,6 +1,6 @@
 // A value by its three numbers under what was told of its column, for the crates of this repository;
 // no size where the column and the value must be made. An answer of none is never wrong.
-ghost use Rattle.std.specs.Prelude.{◌≡◌, ◌+◌, ◌*◌, ◌<◌, ◌≤◌, length, drop};
+ghost use Rattle.std.specs.Prelude.{◌≡◌, ◌+◌, ◌*◌, ◌<◌, ◌≤◌, length, drop, Some};
 ghost use Rattle.std.proofs.lemmas.List.Edits.{sets};
 ghost use Rattle.format.specs.Scalar.{width};
 ghost use Rattle.value_kind.specs.Told.{kind_told};
@@ -15,7 +15,7 @@ use wire::Guid;
 
 // The bytes alone.
 fn bare_size(k: Kind, kind: u64) -> Option<usize>
-    ensures { IsSize (P.Bare k) kind result }
+    ensures { IsSize (Some (P.Bare k)) kind result }
 {
     if kind == k.place() as u64 {
         return Some(k.bytes());
@@ -25,7 +25,7 @@ fn bare_size(k: Kind, kind: u64) -> Option<usize>
 
 // Null, or the bytes behind their count.
 fn counted_size(k: Kind, kind: u64) -> Option<usize>
-    ensures { IsSize (P.Counted k) kind result }
+    ensures { IsSize (Some (P.Counted k)) kind result }
 {
     if kind == 0 {
         return Some(1);
@@ -36,13 +36,14 @@ fn counted_size(k: Kind, kind: u64) -> Option<usize>
     Some(1 + k.bytes())
 }
 
-// How many bytes a value of the kind's number takes.
-fn size_of(p: Plain, kind: u64) -> Option<usize>
+// How many bytes a value of the kind's number takes; none where nothing was told of the column.
+pub fn size_of(p: Option<Plain>, kind: u64) -> Option<usize>
     ensures { IsSize p kind result }
 {
     match p {
-        Plain::Bare(k) => bare_size(k, kind),
-        Plain::Counted(k) => counted_size(k, kind),
+        Some(Plain::Bare(k)) => bare_size(k, kind),
+        Some(Plain::Counted(k)) => counted_size(k, kind),
+        None => None,
     }
 }
 
@@ -53,7 +54,7 @@ pub fn plain_at(table: &[u8], i: usize, kind: u64) -> Option<(Plain, usize)>
     ensures { IsPlain (column_of (drop (16 * i) table.now) no_names) kind result }
 {
     let p = packed_plain::inner::plain_at(table, i)?;
-    let n = size_of(p, kind)?;
+    let n = size_of(Some(p), kind)?;
     Some((p, n))
 }
 
@@ -80,8 +81,8 @@ fn put_kind(out: &mut [u8], at: usize, k: Kind, v: Slot)
 
 // Null, or the bytes behind their count, from at.
 fn put_counted(out: &mut [u8], at: usize, k: Kind, v: Slot)
-    requires { at + length (plain_bytes (P.Counted k) v.kind v.first v.second) ≤ length out.old }
-    ensures { out.new ≡ sets out.old at (plain_bytes (P.Counted k) v.kind v.first v.second) }
+    requires { at + length (plain_bytes (Some (P.Counted k)) v.kind v.first v.second) ≤ length out.old }
+    ensures { out.new ≡ sets out.old at (plain_bytes (Some (P.Counted k)) v.kind v.first v.second) }
 {
     if v.kind == 0 {
         wire::inner::put_byte(out, at, 0);
@@ -91,13 +92,14 @@ fn put_counted(out: &mut [u8], at: usize, k: Kind, v: Slot)
     put_kind(out, at + 1, k, v);
 }
 
-// The value's bytes from at.
-pub fn put_in(out: &mut [u8], at: usize, p: Plain, v: Slot)
+// The value's bytes from at; nothing where nothing was told of the column.
+pub fn put_in(out: &mut [u8], at: usize, p: Option<Plain>, v: Slot)
     requires { at + length (plain_bytes p v.kind v.first v.second) ≤ length out.old }
     ensures { out.new ≡ sets out.old at (plain_bytes p v.kind v.first v.second) }
 {
     match p {
-        Plain::Bare(k) => put_kind(out, at, k, v),
-        Plain::Counted(k) => put_counted(out, at, k, v),
+        Some(Plain::Bare(k)) => put_kind(out, at, k, v),
+        Some(Plain::Counted(k)) => put_counted(out, at, k, v),
+        None => {}
     }
 }

@@ -1,5 +1,6 @@
 -- `packed_size::size_at` meets its contract: a size that the numbers tell is the value's; the sum stays small, since such a value has at most 17 bytes.
 -- Assumes nothing.
+use Rattle.std.specs.Prelude.{Some}
 use mathlib.Core.List.{List}
 use Prim.Native.Nat.{ℕ, ◌+◌, ◌*◌, ◌^◌, ◌<◌}
 use native.Mathlib.Omega.{arith}
@@ -19,7 +20,7 @@ bytes c =
     let t = a.table.now in
     let vs = a.values.now in
     let b = a.buffer.now in
-    plain_bytes c.in-Some.field-0-0 (kind_at t vs b a.i) (first_at t vs b a.i) (second_at t vs b a.i)
+    plain_bytes (Some c.in-Some.field-0-0) (kind_at t vs b a.i) (first_at t vs b a.i) (second_at t vs b a.i)
 
 taken : (c : In-Some) →
     let a = c.args in
@@ -27,7 +28,7 @@ taken : (c : In-Some) →
 taken c =
     let a = c.args in
     let small : get_or a.values.now (3 * a.i + 1) 0 < 256 ^ 8 = omega (arith, c.type_inv.values (3 * a.i + 1)) in
-    taken_at a.table.now a.values.now a.buffer.now a.i _ c.in-Some.n
+    taken_at a.table.now a.values.now a.buffer.now a.i (Some c.in-Some.field-0-0) c.in-Some.n
     c.in-Some.ensures.0 c.in-Some.ensures.2 small
 
 pub returns-in-Some : goal.returns-in-Some

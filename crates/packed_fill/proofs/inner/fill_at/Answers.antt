@@ -1,4 +1,5 @@
 -- `packed_fill::inner::fill_at` meets its contract: bytes that the numbers tell are the value's, and stand at the place. Assumes nothing.
+use Rattle.std.specs.Prelude.{Some}
 use mathlib.Core.Path.{◌≡◌, sym, ap, ◌∙◌}
 use mathlib.Core.List.{List}
 use Prim.Native.Nat.{ℕ, ◌+◌, ◌*◌, ◌^◌, ◌<◌, ◌≤◌}
@@ -23,7 +24,7 @@ bytes c =
     let t = a.table.now in
     let vs = a.values.now in
     let b = a.buffer.now in
-    plain_bytes c.in-Some.p (kind_at t vs b a.i) (first_at t vs b a.i) (second_at t vs b a.i)
+    plain_bytes (Some c.in-Some.p) (kind_at t vs b a.i) (first_at t vs b a.i) (second_at t vs b a.i)
 
 taken : (c : In-Some) →
     let a = c.args in
@@ -31,7 +32,7 @@ taken : (c : In-Some) →
 taken c =
     let a = c.args in
     let small : get_or a.values.now (3 * a.i + 1) 0 < 256 ^ 8 = omega (arith, c.type_inv.values (3 * a.i + 1)) in
-    taken_at a.table.now a.values.now a.buffer.now a.i c.in-Some.p c.in-Some.n
+    taken_at a.table.now a.values.now a.buffer.now a.i (Some c.in-Some.p) c.in-Some.n
     c.in-Some.ensures.0 (rw c.at-v.ensures.kind at c.in-Some.ensures.2) small
 
 room : (c : In-Some) →

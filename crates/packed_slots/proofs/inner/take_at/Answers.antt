@@ -1,4 +1,5 @@
 -- `packed_slots::inner::take_at` meets its contract: by the width that the record tells, or by the column that is made. Assumes nothing.
+use Rattle.std.specs.Prelude.{Some}
 use mathlib.Core.Path.{◌≡◌, ap, ◌∙◌}
 use mathlib.Core.List.{List, []}
 use Prim.Native.Nat.{ℕ, ◌*◌}
@@ -18,7 +19,7 @@ use Rattle.packed_slots.proofs.inner.take_at.Goals as goal
 there : (c : In-Some) →
     let a = c.args in
     let rest = drop a.place.cursor.at a.s.now in
-    let p = c.in-Some.p in
+    let p = Some c.in-Some.p in
     Stands (column_of (drop (16 * c.args.i) c.args.table.now) no_names) rest (value_in p rest) c.in-Some.n × HasBytes p rest
 there c = c.in-Some.ensures
 
@@ -29,7 +30,7 @@ pub overflow_add-result : goal.overflow_add-result
 overflow_add-result c =
     let a = c.args in
     let rest = drop a.place.cursor.at a.s.now in
-    let v = value_in c.in-Some.p rest in
+    let v = value_in (Some c.in-Some.p) rest in
     let inside = ends-inside (column_of (drop (16 * c.args.i) c.args.table.now) no_names) a.s.now a.place.cursor.at v c.in-Some.n c.requires.2
     (there (goal.at.overflow_add-result c).In-Some).0 in
     record { fits = omega (arith, inside, c.well_formed) }
@@ -37,7 +38,7 @@ overflow_add-result c =
 pub returns-in-Some : goal.returns-in-Some
 returns-in-Some c =
     let a = c.args in
-    taken-width (column_of (drop (16 * c.args.i) c.args.table.now) no_names) a.s.now (place_told a.place) c.in-Some.p c.in-Some.n
+    taken-width (column_of (drop (16 * c.args.i) c.args.table.now) no_names) a.s.now (place_told a.place) (Some c.in-Some.p) c.in-Some.n
     c.requires.2 (there (goal.at.returns-in-Some c).In-Some).0
     (3 * a.i) a.values.now a.out.now _ (rw c.slot_in.ensures at c.store.ensures)
 

@@ -1,4 +1,5 @@
 -- `plain_write::inner::put_counted` meets its contract: a zero, or the count and the bytes behind it. Assumes nothing.
+use Rattle.std.specs.Prelude.{Some}
 use mathlib.Core.Path.{◌≡◌}
 use mathlib.Core.List.{List, ◌∷◌}
 use Prim.Native.Nat.{ℕ, ◌+◌, ◌≤◌}
@@ -32,7 +33,7 @@ bytes c = let a = c.args in kind_bytes (kind_told a.k) a.v.first a.v.second
 
 is : (c : Else-v-eq0) →
     let a = c.args in
-    plain_bytes (P.Counted a.k) a.v.kind a.v.first a.v.second ≡ width (kind_told a.k) ∷ bytes c
+    plain_bytes (Some (P.Counted a.k)) a.v.kind a.v.first a.v.second ≡ width (kind_told a.k) ∷ bytes c
 is c = let a = c.args in counted-bytes a.k a.v.kind a.v.first a.v.second c.if-v-eq0.false
 
 room : (c : Else-v-eq0) →
