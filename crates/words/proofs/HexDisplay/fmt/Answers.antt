@@ -1,14 +1,32 @@
--- One byte more: two digits more.
-use Rattle.std.proofs.Common.{rules, ◌≡◌, ◌+◌, [], ◌++◌, take, get_or}
-use Rattle.std.proofs.Output.{has_written_append, has_written_of_eq}
-use Rattle.std.proofs.lemmas.List.{take_more, flat_map_more}
+-- A part more: its digits are ASCII, and so are written as text, behind those of the parts before it.
+use Rattle.std.proofs.Common.{rules, ◌≡◌, List, ℕ, ◌++◌, sym, ap, ◌∙◌, append_assoc}
+use Rattle.std.proofs.Output.{has_written_append}
+use Rattle.std.proofs.lemmas.Grind.{flat_map-append}
+use Rattle.std.proofs.lemmas.Str.{IsUtf8-from_ascii}
+use Rattle.std.specs.Slice.Iter.{chunks_rest}
 use Rattle.words.specs.Hex.{two_digits, hex_text}
 use Rattle.words.proofs.HexDisplay.fmt.Goals as goal
 
-pub loop-b-preserved : goal.loop-b-preserved
-loop-b-preserved g c = λ plain.
-    let s = c.args.self.now.0.now in
-    let i = c.loop-b.b-index in
-    let e : hex_text (take i s) ++ two_digits (get_or s i 0) ≡ hex_text (take (i + 1) s) =
-    rw (take_more s i 0 c.loop-b-test.true) (flat_map_more two_digits [] (take i s) (get_or s i 0)) in
-    has_written_of_eq _ _ _ _ _ e (has_written_append _ _ _ _ _ _ (c.loop-b.invariant plain) (search rules))
+pub unreachable-requires : goal.unreachable-requires
+unreachable-requires g c =
+    c.in_default.ensures.cases.0 (rw c.spell-n.ensures.digits (IsUtf8-from_ascii (hex_text c.in-Some.part.now) c.spell-n.ensures.ascii))
+
+pub loop-part-preserved : goal.loop-part-preserved
+loop-part-preserved g c =
+    let part = c.in-Some.part.now in
+    let steps = c.in-Some.ensures.steps in
+    let rest = chunks_rest c.next.new.self in
+    let shown : c.in-Ok.letters.now ≡ hex_text part = c.in-Ok.ensures.cases.0 ∙ c.spell-n.ensures.digits in (
+      search rules,
+      tt,
+      steps.0 ∙ c.loop-part.invariant.2,
+      λ plain.
+          let so_far = c.loop-part.invariant.3 plain in (
+            so_far.0 ++ c.in-Ok.letters.now,
+            has_written_append _ _ _ _ _ _ so_far.1 (search rules),
+            append_assoc so_far.0 _ _
+                ∙ ap (λ (t : List ℕ). so_far.0 ++ t)
+                (rw shown (sym (flat_map-append two_digits part rest) ∙ ap hex_text (sym steps.1.0)))
+                ∙ so_far.2,
+          ),
+    )
