@@ -4,14 +4,24 @@
 
 pub mod refused;
 
-use arrayvec::ArrayString;
 use column_type::Column;
 use std::fmt::Write;
-use std::io;
+use std::{fmt, io};
 use words::Hex;
 
-// No name of a type is longer: "uniqueidentifier", and a number of at most 20 digits in brackets.
-const LONGEST_NAME: usize = 38;
+// How wide a column's type is printed.
+const TYPE_WIDTH: usize = 20;
+
+// A writer that keeps no letter, and counts them.
+#[derive(Drop)]
+struct Letters(usize);
+
+impl fmt::Write for Letters {
+    fn write_str(&mut self, s: &str) -> fmt::Result {
+        self.0 = self.0.saturating_add(s.len());
+        Ok(())
+    }
+}
 
 pub fn say_head(rt: &impl Print) -> io::Result<()> {
     println!(rt; "column  type                  value")
@@ -19,9 +29,11 @@ pub fn say_head(rt: &impl Print) -> io::Result<()> {
 
 // The number of a column, from 1 on, and its type.
 pub fn say_column(rt: &impl Print, i: usize, c: Column) -> io::Result<()> {
-    let mut name = ArrayString::<LONGEST_NAME>::new();
-    write!(name, "{}", show_type::type_name(c))?;
-    print!(rt; "{:>6}  {:<20}  ", i.saturating_add(1), name.as_str())
+    let name = show_type::type_name(c);
+    let mut letters = Letters(0);
+    let _counted = letters.write(name);
+    let blanks = TYPE_WIDTH.saturating_sub(letters.0);
+    print!(rt; "{:>6}  {name}{:blanks$}  ", i.saturating_add(1), "")
 }
 
 // Where the row ends, and how many bytes follow it.
