@@ -1,44 +1,59 @@
-// The lists of a frame: a count in two bytes, then that many columns or values.
+// The lists of a frame: a count in two bytes, then that many columns or values. A list is read into an
+// array of 1,024 places; a count above them is handed on as it is, and the call refuses it.
 
 #![tactic(auto)]
 
-ghost use Rattle.std.specs.Prelude.{◌≤◌, length};
+ghost use Rattle.std.specs.Prelude.{◌≡◌, ◌≤◌, ◌*◌, length, drop};
+ghost use Rattle.std.specs.Int.{from_le_bytes, w16};
+ghost use Rattle.replay_say.specs.Fields.{field};
 
 use column_type::Column;
 use replay_say::fields::Fields;
 use value_kind::Value;
 
-// Places for a list: one more than a row may have, so that the call itself refuses a longer one.
-pub const PLACES: usize = 1025;
+// The places for a list: as many as a row may have.
+pub const PLACES: usize = 1024;
 
-// The records of the list that a frame has next: as many as there are places for.
-fn records<'a, T: Copy, F: Fn(&mut Fields) -> T>(
-    frame: &mut Fields,
-    read: F,
-    places: &'a mut [T],
-) -> &'a [T]
-    requires { F.IsAlwaysCallable read }
+// How many bytes a column has, and a value.
+const COLUMN: usize = 66;
+
+const VALUE: usize = 17;
+
+// The places for so many records: all where there are not as many.
+fn front<'a, T>(places: &'a mut [T], count: usize) -> &'a mut [T]
     ensures { length result.now ≤ length places.old }
+{
+    let n = count.min(places.len());
+    &mut places[..n]
+}
+
+// The records of a list, as many as there are places for.
+fn records<T: Copy, F: Fn(&mut Fields) -> T>(mut list: Fields, read: F, places: &mut [T])
+    requires { F.IsAlwaysCallable read }
+{
+    for place in places {
+        *place = read(&mut list);
+    }
+}
+
+// The columns of the list that a frame has next, as far as there are places: how many it says it has.
+pub fn columns(frame: &mut Fields, places: &mut [Column; PLACES]) -> usize
+    ensures count { result ≡ from_le_bytes w16 (field 2 frame.old.rest.now) }
+    ensures behind { frame.new.rest.now ≡ drop (result * 66) (drop 2 frame.old.rest.now) }
 {
     let count = usize::from(frame.two());
-    for i in 0..count {
-        let record = read(frame);
-        if let Some(place) = places.get_mut(i) {
-            *place = record;
-        }
-    }
-    let n = count.min(places.len());
-    &places[..n]
+    let list = frame.part(count * COLUMN);
+    records(list, replay_type::column, front(places, count));
+    count
 }
 
-pub fn columns<'a>(frame: &mut Fields, places: &'a mut [Column]) -> &'a [Column]
-    ensures { length result.now ≤ length places.old }
+// The values of the list that a frame has next, likewise.
+pub fn values(frame: &mut Fields, places: &mut [Value; PLACES]) -> usize
+    ensures count { result ≡ from_le_bytes w16 (field 2 frame.old.rest.now) }
+    ensures behind { frame.new.rest.now ≡ drop (result * 17) (drop 2 frame.old.rest.now) }
 {
-    records(frame, replay_type::column, places)
-}
-
-pub fn values<'a>(frame: &mut Fields, places: &'a mut [Value]) -> &'a [Value]
-    ensures { length result.now ≤ length places.old }
-{
-    records(frame, replay_value::value, places)
+    let given = usize::from(frame.two());
+    let list = frame.part(given * VALUE);
+    records(list, replay_value::value, front(places, given));
+    given
 }

@@ -9,7 +9,7 @@ pub struct Fields<'a> {
 }
 
 impl<'a> Fields<'a> {
-    ghost use Rattle.std.specs.Prelude.{◌≡◌, ◌≢◌, ◌≤◌, ◌↔◌, drop, length, IsTrue, slice_index};
+    ghost use Rattle.std.specs.Prelude.{◌≡◌, ◌≢◌, ◌≤◌, ◌↔◌, drop, length, take, IsTrue, slice_index};
     ghost use Rattle.std.specs.Int.{from_le_bytes, w16, w32, w64};
     ghost use Rattle.replay_say.specs.Fields.{field};
 
@@ -30,6 +30,17 @@ impl<'a> Fields<'a> {
         };
         self.rest = rest;
         *field
+    }
+
+    // So many bytes, or all that are left, for fields of their own.
+    pub fn part(&mut self, n: usize) -> Self
+        ensures part { result.rest.now ≡ take n self.old.rest.now }
+        ensures behind { self.new.rest.now ≡ drop n self.old.rest.now }
+    {
+        let whole = self.rest;
+        let n = n.min(whole.len());
+        self.rest = &whole[n..];
+        Fields { rest: &whole[..n] }
     }
 
     pub fn byte(&mut self) -> u8
