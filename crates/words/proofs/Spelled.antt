@@ -1,5 +1,6 @@
 -- The digits of bytes are all ASCII; and where those of one byte stand, behind what stood there.
-use Rattle.std.proofs.Common.{◌≡◌, ℕ, suc, ◌+◌, ◌/◌, ◌%◌, ◌<◌, Bool, true, false, nat_lt, if◌then◌else◌, List, [], ◌∷◌, ◌++◌, length, take, slice_index, slice_set, arith}
+use Rattle.std.proofs.Common.{◌≡◌, ℕ, suc, ◌+◌, ◌/◌, ◌%◌, ◌<◌, Bool, true, false, nat_lt, if◌then◌else◌, arith}
+use Rattle.std.proofs.Common.{List, [], ◌∷◌, ◌++◌, length, take, slice_index, slice_set}
 use Rattle.std.specs.Fmt.{digit_glyph}
 use Rattle.std.specs.Str.{IsAscii}
 use Rattle.std.proofs.lemmas.Fmt.{hex_byte}
@@ -19,7 +20,8 @@ two_ascii : (b : ℕ) → b < 256 → IsAscii (two_digits b)
 two_ascii b h =
     let low : List ℕ = digit_glyph false (b % 16) ∷ [] in
     rw (hex_byte false b h)
-    (IsAscii-cons (digit_glyph false (b / 16)) low (low_digit (b / 16) (omega arith)) (IsAscii-cons (digit_glyph false (b % 16)) [] (low_digit (b % 16) (omega arith)) IsAscii-nil))
+    (IsAscii-cons (digit_glyph false (b / 16)) low (low_digit (b / 16) (omega arith))
+    (IsAscii-cons (digit_glyph false (b % 16)) [] (low_digit (b % 16) (omega arith)) IsAscii-nil))
 
 pub ascii : (s : List ℕ) → ((i : ℕ) → slice_index s i < 256) → IsAscii (hex_text s)
 ascii [] h = IsAscii-nil
