@@ -19,8 +19,9 @@ fn listed(
 ) -> io::Result<()> {
     match capture_columns::read_columns(s, from, count) {
         Ok(columns) => {
-            let cols = &columns.list[..count];
-            say_row(rt, cols, cols, s, Cursor { at: columns.end.at }, room)
+            let described = &columns.list[..count];
+            let from = Cursor { at: columns.end.at };
+            say_row(rt, &columns.list, count, described, s, from, room)
         }
         Err(e) => say::refused(rt, e.refusal, room),
     }

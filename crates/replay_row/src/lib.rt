@@ -13,20 +13,20 @@ use value_kind::Value;
 
 pub fn row_write(rt: &impl Print, mut frame: Fields, room: &mut [u8]) -> io::Result<()> {
     let room = frame.room(room);
-    let mut columns = [column_type::plain(TypeId::Udt, 0); PLACES];
-    let cols = replay_list::columns(&mut frame, &mut columns);
+    let mut cols = [column_type::plain(TypeId::Udt, 0); PLACES];
+    let count = replay_list::columns(&mut frame, &mut cols);
     let mut values = [Value::Null; PLACES];
-    let values = replay_list::values(&mut frame, &mut values);
-    let answer = row_write::write_row(cols, values, frame.input(), room);
+    let given = replay_list::values(&mut frame, &mut values);
+    let answer = held::write_held_row(cols, count, values, given, frame.input(), room);
     say::wrote(rt, answer, room)
 }
 
 pub fn normal(rt: &impl Print, mut frame: Fields, room: &mut [u8]) -> io::Result<()> {
     let from = Cursor { at: frame.place() };
     let room = frame.room(room);
-    let mut columns = [column_type::plain(TypeId::Udt, 0); PLACES];
-    let cols = replay_list::columns(&mut frame, &mut columns);
-    match row_normal::normal_row(cols, frame.input(), from, room) {
+    let mut cols = [column_type::plain(TypeId::Udt, 0); PLACES];
+    let count = replay_list::columns(&mut frame, &mut cols);
+    match held_normal::normal_held_row(cols, count, frame.input(), from, room) {
         Ok((count, next)) => println!(rt; "ok {} {}", next.at, Written { room, count }),
         Err(e) => say::refused(rt, e, room),
     }

@@ -15,13 +15,14 @@ use std::io;
 // The values from a place on, in turn. It hands back how many bytes of the room they take.
 fn show_values(
     rt: &impl Print,
-    cols: &[Column],
+    cols: &[Column; PLACES],
+    count: usize,
     first: RowPlace,
     s: &[u8],
     room: &[u8],
 ) -> io::Result<usize> {
     let mut place = first;
-    for c in cols {
+    for c in cols.iter().take(count) {
         let Ok((found, next)) = place.value(*c, s) else {
             break;
         };
@@ -34,19 +35,20 @@ fn show_values(
 // The row at a place, behind the columns that are to be described.
 pub fn say_row(
     rt: &impl Print,
-    cols: &[Column],
+    cols: &[Column; PLACES],
+    count: usize,
     described: &[Column],
     s: &[u8],
     from: Cursor,
     room: &mut [u8],
 ) -> io::Result<()> {
-    match row_read::read_row(cols, s, from, room) {
+    match held_read::read_held_row(*cols, count, s, from, room) {
         Ok((first, next)) => {
-            print!(rt; "ok {} {}", next.at, cols.len())?;
+            print!(rt; "ok {} {count}", next.at)?;
             for c in described {
                 print!(rt; " {}", replay_type::Words(*c))?;
             }
-            let count = show_values(rt, cols, first, s, room)?;
+            let count = show_values(rt, cols, count, first, s, room)?;
             println!(rt; " {}", Written { room, count })
         }
         Err(e) => say::refused(rt, e, room),
@@ -56,7 +58,7 @@ pub fn say_row(
 pub fn row_read(rt: &impl Print, mut frame: Fields, room: &mut [u8]) -> io::Result<()> {
     let from = Cursor { at: frame.place() };
     let room = frame.room(room);
-    let mut columns = [column_type::plain(TypeId::Udt, 0); PLACES];
-    let cols = replay_list::columns(&mut frame, &mut columns);
-    say_row(rt, cols, &[], frame.input(), from, room)
+    let mut cols = [column_type::plain(TypeId::Udt, 0); PLACES];
+    let count = replay_list::columns(&mut frame, &mut cols);
+    say_row(rt, &cols, count, &[], frame.input(), from, room)
 }
