@@ -1,6 +1,6 @@
 -- The copying pass of a row, turn by turn: what the room and the run show, and behind it the normal form of what is left of the row, are the row's normal form.
 -- Why it holds: the normal form is known to fit before the first turn; each turn adds one value's normal form to what is shown, and the columns behind it are
--- read on where the run stands. The last run is copied behind the last turn.
+-- read on where the run stands. The last run is copied behind the last turn. At a refusal the run holds nothing.
 -- Assumes nothing.
 use mathlib.Core.Path.{◌≡◌, refl, sym, ap, ◌∙◌}
 use mathlib.Core.List.{List, [], ◌∷◌, ◌++◌, append_assoc, append-nil}
@@ -23,7 +23,7 @@ use Rattle.columns.proofs.Taken.{left_at, none_left}
 use Rattle.value_normal.specs.declared.Run.{Run}
 use Rattle.value_normal.specs.Runs.{held, shown, run_on, RunFits, RunGrows, Grows}
 use Rattle.value_normal.proofs.Growing.{held-length}
-use Rattle.normal_step.specs.Steps.{normal_value}
+use Rattle.normal_step.specs.Steps.{open_of, normal_value}
 use Rattle.normal_step.proofs.Answering.{asked, answered, First, first_of}
 
 module _ (ys : List Column) (s : List ℕ) (at : ℕ) (out₀ : List ℕ) where
@@ -49,12 +49,17 @@ module _ (ys : List Column) (s : List ℕ) (at : ℕ) (out₀ : List ℕ) where
     pub count : run.put + (run.at - run.from) + length (encode_row (left i) values) ≡ length j
     pub fits : length j ≤ length out₀
 
+  -- by what the call answers
+  abbrev pub Copied : Read (List ℕ) → ℕ → Run → List ℕ → Type 0
+  Copied (took j n) i run bs = Copying j n i run bs
+  Copied (stops e) i run bs = (bs ≡ out₀) × (run ≡ run_on 0 0)
+
   -- the first run starts at the row's first byte
-  pub copying_begins : (j : List ℕ) (n : ℕ) → answer ≡ took j n → Copying j n 0 (run_on at 0) out₀
-  copying_begins j n h =
+  pub copying_begins : (a : Read (List ℕ)) (run : Run) → answer ≡ a → run ≡ open_of (map_read length a) at → Copied a 0 run out₀
+  copying_begins (took j n) run h e =
       let w = answered cs s at (length out₀) j n h in
       let z : at - at ≡ 0 = omega arith in
-      record {
+      rw e (record {
         values = w.values;
         reads = w.read;
         joins = rw z w.bytes;
@@ -63,7 +68,8 @@ module _ (ys : List Column) (s : List ℕ) (at : ℕ) (out₀ : List ℕ) where
         lies = omega arith;
         count = omega (arith, z, ap length w.bytes);
         fits = w.fits;
-      }
+      })
+  copying_begins (stops x) run h e = (refl, e)
 
   -- the column of a turn, and those behind it
   abbrev here : ℕ → D.Column
@@ -159,15 +165,21 @@ module _ (ys : List Column) (s : List ℕ) (at : ℕ) (out₀ : List ℕ) where
         ∙ (ap (λ (x : List ℕ). x ++ drop (run.put + length c) bs) all_shown ∙ ap (λ (x : List ℕ). j ++ x) d)
 
   -- what copying the last run asks
-  pub copying_closes : (j : List ℕ) (n : ℕ) (run : Run) (bs : List ℕ) → Copying j n (length ys) run bs
+  pub copying_closes : (a : Read (List ℕ)) (run : Run) (bs : List ℕ) → Copied a (length ys) run bs
       → (run.from ≤ run.at) × (run.at ≤ length s) × (run.put + (run.at - run.from) ≤ length bs)
-  copying_closes j n run bs z = (z.lies, run_inside j n run bs z, omega (arith, all_counted j n run bs z, z.fits, z.same))
+  copying_closes (took j n) run bs z = (z.lies, run_inside j n run bs z, omega (arith, all_counted j n run bs z, z.fits, z.same))
+  copying_closes (stops x) run bs z = rw z.1 (omega arith, omega arith, omega arith)
+
+  none_put : (run : Run) (bs : List ℕ) → run ≡ run_on 0 0 → put_at bs run.put (held s run) ≡ bs
+  unfolding put_at
+  none_put run bs e = rw e
 
   -- and what it leaves
-  pub copying_ends : (j : List ℕ) (n : ℕ) (run : Run) (bs after : List ℕ) → answer ≡ took j n → Copying j n (length ys) run bs
-      → after ≡ put_at bs run.put (held s run) → after ≡ room_after_read (λ (x : List ℕ). x) answer out₀
+  pub copying_ends : (a : Read (List ℕ)) (run : Run) (bs after : List ℕ) → Copied a (length ys) run bs
+      → after ≡ put_at bs run.put (held s run) → after ≡ room_after_read (λ (x : List ℕ). x) a out₀
   unfolding room_after_read
-  copying_ends j n run bs after h z e = rw h (e ∙ last-ends j n run bs z)
+  copying_ends (took j n) run bs after z e = e ∙ last-ends j n run bs z
+  copying_ends (stops x) run bs after z e = e ∙ (none_put run bs z.1 ∙ z.0)
 
   -- a refusal leaves the room as it was
   pub copying_refused : (x : Refusal) → answer ≡ stops x → (stops x ≡ map_read length answer) × (out₀ ≡ room_after_read (λ (l : List ℕ). l) answer out₀)

@@ -30,7 +30,7 @@ pub fn normal_packed(
     if out.len() < row.normal {
         return Err(Refusal::Room);
     }
-    let mut run = turn::open_run(cursor);
+    let mut run = turn::open_run(Ok((row.normal, row.next)), cursor);
     for i in 0..packed::records(table) {
         run = inner::normal_at(out, table, i, s, run);
     }

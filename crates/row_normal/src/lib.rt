@@ -29,7 +29,7 @@ pub fn normal_row(
     if out.len() < row.normal {
         return Err(Refusal::Room);
     }
-    let mut run = turn::open_run(cursor);
+    let mut run = turn::open_run(Ok((row.normal, row.next)), cursor);
     for c in cols {
         run = turn::normal_on(out, *c, s, run);
     }

@@ -74,7 +74,7 @@ form c =
 pub loop-i-init : goal.loop-i-init
 loop-i-init c =
     let a = c.args in
-    λ j n h. rw c.open_run-run.ensures (copying_begins (table_made a.table.now) a.s.now a.cursor.at a.out.now j n h)
+    λ j n h. copying_begins (table_made a.table.now) a.s.now a.cursor.at a.out.now (took j n) _ h c.open_run-run.ensures
 
 -- a turn has a column
 has-column : (c : In-loop-i) → c.loop-i.i < length (table_made c.args.table.now)
@@ -118,7 +118,7 @@ pub close_run-requires : goal.close_run-requires
 close_run-requires c =
     let a = c.args in
     let f = form (goal.at.close_run-requires c).Else-out-row in
-    copying_closes (table_made a.table.now) a.s.now a.cursor.at a.out.now f.0 _ c.loop-i.run c.loop-i.out
+    copying_closes (table_made a.table.now) a.s.now a.cursor.at a.out.now (took f.0 c.in_ok-row.row.next.at) c.loop-i.run c.loop-i.out
     (last (goal.at.close_run-requires c).After-loop-i f.0 _ f.1)
 
 pub returns : goal.returns
@@ -128,7 +128,7 @@ returns c =
     let told = made_form (goal.at.returns c).Start in
     record {
       answer = f.2 ∙ ap (map_read length) told;
-      room = copying_ends (table_made a.table.now) a.s.now a.cursor.at a.out.now f.0 _ c.loop-i.run c.loop-i.out c.close_run.new.out f.1
-          (last (goal.at.returns c).After-loop-i f.0 _ f.1) c.close_run.ensures.1
-          ∙ ap (λ (r : Read (List ℕ)). room_after_read (λ (l : List ℕ). l) r a.out.now) told;
+      room = copying_ends (table_made a.table.now) a.s.now a.cursor.at a.out.now (took f.0 c.in_ok-row.row.next.at) c.loop-i.run c.loop-i.out
+          c.close_run.new.out (last (goal.at.returns c).After-loop-i f.0 _ f.1) c.close_run.ensures.1
+          ∙ ap (λ (r : Read (List ℕ)). room_after_read (λ (l : List ℕ). l) r a.out.now) (sym f.1 ∙ told);
     }

@@ -1,6 +1,6 @@
 -- `row_normal::normal_row` meets its contract: judged first, then a turn takes a column, and the steps' laws of normal_step say what is copied. Assumes
 -- nothing.
-use Rattle.std.proofs.Common.{◌≡◌, List, [], ℕ, length, ap, ◌∙◌, arith}
+use Rattle.std.proofs.Common.{◌≡◌, List, [], ℕ, length, sym, ap, ◌∙◌, arith}
 use Rattle.std.proofs.lemmas.List.{get_or_default}
 use Rattle.wire.proofs.Exit.{exit_is}
 use Rattle.format.specs.Answer.{Read, took, map_read, room_after_read}
@@ -48,7 +48,7 @@ form c =
 pub loop-c-init : goal.loop-c-init
 loop-c-init c =
     let a = c.args in
-    λ j n h. rw c.open_run-run.ensures (copying_begins a.cols.now a.s.now a.cursor.at a.out.now j n h)
+    λ j n h. copying_begins a.cols.now a.s.now a.cursor.at a.out.now (took j n) _ h c.open_run-run.ensures
 
 pub normal_on-run-requires : goal.normal_on-run-requires
 normal_on-run-requires c =
@@ -78,7 +78,8 @@ pub close_run-requires : goal.close_run-requires
 close_run-requires c =
     let a = c.args in
     let f = form (goal.at.close_run-requires c).Else-out-row in
-    copying_closes a.cols.now a.s.now a.cursor.at a.out.now f.0 _ c.loop-c.run c.loop-c.out (last (goal.at.close_run-requires c).After-loop-c f.0 _ f.1)
+    copying_closes a.cols.now a.s.now a.cursor.at a.out.now (took f.0 c.in_ok-row.row.next.at) c.loop-c.run c.loop-c.out
+    (last (goal.at.close_run-requires c).After-loop-c f.0 _ f.1)
 
 pub returns : goal.returns
 returns c =
@@ -87,7 +88,7 @@ returns c =
     let names = any_names a.cols.now a.s.now a.cursor.at (length a.out.now) in record {
       answer = λ b. f.2 ∙ ap (map_read length) (names b);
       room = λ b.
-          copying_ends a.cols.now a.s.now a.cursor.at a.out.now f.0 _ c.loop-c.run c.loop-c.out _ f.1 (last (goal.at.returns c).After-loop-c f.0 _ f.1)
-          c.close_run.ensures.1
-          ∙ ap (λ (r : Read (List ℕ)). room_after_read (λ (l : List ℕ). l) r a.out.now) (names b);
+          copying_ends a.cols.now a.s.now a.cursor.at a.out.now (took f.0 c.in_ok-row.row.next.at) c.loop-c.run c.loop-c.out _
+          (last (goal.at.returns c).After-loop-c f.0 _ f.1) c.close_run.ensures.1
+          ∙ ap (λ (r : Read (List ℕ)). room_after_read (λ (l : List ℕ). l) r a.out.now) (sym f.1 ∙ names b);
     }
