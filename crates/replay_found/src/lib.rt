@@ -3,8 +3,9 @@
 #![tactic(auto)]
 
 use bits::float::{Float32, Float64};
-use replay_say::say::{Bytes, TextOrder};
-use std::fmt;
+use replay_say::say;
+use replay_say::say::TextOrder;
+use std::{fmt, io};
 use value_found::{Found, Stand};
 use value_kind::{Scalar, Span};
 
@@ -30,57 +31,45 @@ impl fmt::Display for ScalarWords {
 }
 
 // A part of some bytes, by its start and count, and its content.
-#[derive(Clone, Copy)]
-struct PartWords<'a> {
-    s: &'a [u8],
-    part: Span,
+fn show_part(rt: &impl Print, s: &[u8], part: Span) -> io::Result<()> {
+    let Span { start, count } = part;
+    print!(rt; "{start} {count}")?;
+    let Some((_, behind)) = s.split_at_checked(start) else {
+        return Ok(());
+    };
+    let Some((content, _)) = behind.split_at_checked(count) else {
+        return Ok(());
+    };
+    print!(rt; " ")?;
+    say::bytes(rt, content)
 }
 
-impl fmt::Display for PartWords<'_> {
-    fn fmt<W: fmt::Write>(&self, f: &mut fmt::Formatter<W>) -> fmt::Result {
-        let Span { start, count } = self.part;
-        write!(f, "{start} {count}")?;
-        let Some((_, behind)) = self.s.split_at_checked(start) else {
-            return Ok(());
-        };
-        match behind.split_at_checked(count) {
-            Some((content, _)) => write!(f, " {}", Bytes(content)),
-            None => Ok(()),
+// Content where it stands.
+fn show_content(rt: &impl Print, stand: Stand, s: &[u8], room: &[u8]) -> io::Result<()> {
+    match stand {
+        Stand::Input(part) => {
+            print!(rt; "in ")?;
+            show_part(rt, s, part)
+        }
+        Stand::Room(part) => {
+            print!(rt; "out ")?;
+            show_part(rt, room, part)
         }
     }
 }
 
 // A value that was read: from `s`, with the room that it was read into.
-#[derive(Clone, Copy)]
-pub struct Words<'a> {
-    pub found: Found,
-    pub s: &'a [u8],
-    pub room: &'a [u8],
-}
-
-impl Words<'_> {
-    // Content where it stands.
-    fn content<W: fmt::Write>(&self, f: &mut fmt::Formatter<W>, stand: Stand) -> fmt::Result {
-        match stand {
-            Stand::Input(part) => write!(f, "in {}", PartWords { s: self.s, part }),
-            Stand::Room(part) => write!(f, "out {}", PartWords { s: self.room, part }),
+pub fn show(rt: &impl Print, found: Found, s: &[u8], room: &[u8]) -> io::Result<()> {
+    match found {
+        Found::Null => print!(rt; "null"),
+        Found::Scalar(v) => print!(rt; "{}", ScalarWords(v)),
+        Found::Binary(stand) => {
+            print!(rt; "binary ")?;
+            show_content(rt, stand, s, room)
         }
-    }
-}
-
-impl fmt::Display for Words<'_> {
-    fn fmt<W: fmt::Write>(&self, f: &mut fmt::Formatter<W>) -> fmt::Result {
-        match self.found {
-            Found::Null => f.write_str("null"),
-            Found::Scalar(v) => write!(f, "{}", ScalarWords(v)),
-            Found::Binary(stand) => {
-                write!(f, "binary ")?;
-                self.content(f, stand)
-            }
-            Found::String(stand) => {
-                write!(f, "string ")?;
-                self.content(f, stand)
-            }
+        Found::String(stand) => {
+            print!(rt; "string ")?;
+            show_content(rt, stand, s, room)
         }
     }
 }

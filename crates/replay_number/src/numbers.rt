@@ -3,6 +3,7 @@ use replay_say::fields::Fields;
 use replay_say::say;
 use std::io;
 use wire::{Cursor, Guid, Width};
+use words::Hex;
 
 // Sixteen bytes in text order behind the op's number, written in wire order.
 pub fn guid(rt: &impl Print, frame: Fields) -> io::Result<()> {
@@ -15,7 +16,7 @@ pub fn guid(rt: &impl Print, frame: Fields) -> io::Result<()> {
     };
     let mut out = [0u8; 16];
     let _ = guid::write_guid(Guid { high, low }, &mut out); // sixteen bytes of room are enough
-    println!(rt; "ok {}", say::Bytes(&out))
+    println!(rt; "ok {}", Hex(&out))
 }
 
 pub fn number(rt: &impl Print, mut frame: Fields) -> io::Result<()> {

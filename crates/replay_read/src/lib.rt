@@ -3,18 +3,16 @@
 #![tactic(auto)]
 
 use cursor::Cursor;
-use replay_found::Words;
 use replay_say::fields::Fields;
 use replay_say::say;
-use replay_say::say::Written;
 use std::io;
 use value_found::Found;
 
 // The place behind a value, the value, and what it takes of the room.
 fn say_value(rt: &impl Print, next: Cursor, found: Found, s: &[u8], room: &[u8]) -> io::Result<()> {
-    print!(rt; "ok {} {}", next.at, Words { found, s, room })?;
-    let count = found.copied();
-    println!(rt; " {}", Written { room, count })
+    print!(rt; "ok {} ", next.at)?;
+    replay_found::show(rt, found, s, room)?;
+    say::written(rt, room, found.copied())
 }
 
 // The value of a column at a place of the input.

@@ -7,7 +7,6 @@ use cursor::Cursor;
 use replay_list::PLACES;
 use replay_say::fields::Fields;
 use replay_say::say;
-use replay_say::say::Written;
 use std::io;
 use value_kind::Value;
 
@@ -27,7 +26,10 @@ pub fn normal(rt: &impl Print, mut frame: Fields, room: &mut [u8]) -> io::Result
     let mut cols = [column_type::plain(TypeId::Udt, 0); PLACES];
     let count = replay_list::columns(&mut frame, &mut cols);
     match held_normal::normal_held_row(cols, count, frame.input(), from, room) {
-        Ok((count, next)) => println!(rt; "ok {} {}", next.at, Written { room, count }),
+        Ok((n, next)) => {
+            print!(rt; "ok {}", next.at)?;
+            say::written(rt, room, n)
+        }
         Err(e) => say::refused(rt, e, room),
     }
 }

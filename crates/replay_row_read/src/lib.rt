@@ -4,11 +4,9 @@
 
 use column_type::{Column, TypeId};
 use cursor::Cursor;
-use replay_found::Words;
 use replay_list::PLACES;
 use replay_say::fields::Fields;
 use replay_say::say;
-use replay_say::say::Written;
 use row_place::RowPlace;
 use std::io;
 
@@ -26,7 +24,8 @@ fn show_values(
         let Ok((found, next)) = place.value(*c, s) else {
             break;
         };
-        print!(rt; " {}", Words { found, s, room })?;
+        print!(rt; " ")?;
+        replay_found::show(rt, found, s, room)?;
         place = next;
     }
     Ok(place.copied)
@@ -48,8 +47,8 @@ pub fn say_row(
             for c in described {
                 print!(rt; " {}", replay_type::Words(*c))?;
             }
-            let count = show_values(rt, cols, count, first, s, room)?;
-            println!(rt; " {}", Written { room, count })
+            let copied = show_values(rt, cols, count, first, s, room)?;
+            say::written(rt, room, copied)
         }
         Err(e) => say::refused(rt, e, room),
     }

@@ -4,22 +4,15 @@ ghost use Rattle.replay_say.specs.Room.{filled, changed_in};
 
 use std::{fmt, io};
 use wire::{Cursor, Guid, Refusal};
-use words::Hex;
 
 const FILLER: u8 = 0xA5;
 
 // A word of bytes, `-` for none.
-#[derive(Clone, Copy)]
-pub struct Bytes<'a>(pub &'a [u8]);
-
-impl fmt::Display for Bytes<'_> {
-    fn fmt<W: fmt::Write>(&self, f: &mut fmt::Formatter<W>) -> fmt::Result {
-        let s = self.0;
-        if s.is_empty() {
-            return f.write_str("-");
-        }
-        write!(f, "{}", Hex(s))
+pub fn bytes(rt: &impl Print, s: &[u8]) -> io::Result<()> {
+    if s.is_empty() {
+        return print!(rt; "-");
     }
+    words::write_hex(rt, s)
 }
 
 // A GUID's bytes in text order.
@@ -29,23 +22,6 @@ pub struct TextOrder(pub Guid);
 impl fmt::Display for TextOrder {
     fn fmt<W: fmt::Write>(&self, f: &mut fmt::Formatter<W>) -> fmt::Result {
         write!(f, "{:016x}{:016x}", self.0.high, self.0.low)
-    }
-}
-
-// A room behind a call: the bytes at its front that were written, and how many behind them changed.
-#[derive(Clone, Copy)]
-pub struct Written<'a> {
-    pub room: &'a [u8],
-    pub count: usize,
-}
-
-impl fmt::Display for Written<'_> {
-    fn fmt<W: fmt::Write>(&self, f: &mut fmt::Formatter<W>) -> fmt::Result {
-        let count = self.count;
-        match self.room.split_at_checked(count) {
-            Some((front, rest)) => write!(f, "{count} {} changed {}", Bytes(front), changed(rest)),
-            None => write!(f, "{count}"),
-        }
     }
 }
 
@@ -65,6 +41,19 @@ fn changed(room: &[u8]) -> usize
     ensures { result ≡ changed_in room.now }
 {
     room.iter().filter(|b| **b != FILLER).count()
+}
+
+// The end of a line: the bytes at the front of the room that a call wrote, and how many behind them
+// changed.
+pub fn written(rt: &impl Print, room: &[u8], count: usize) -> io::Result<()> {
+    match room.split_at_checked(count) {
+        Some((front, rest)) => {
+            print!(rt; " {count} ")?;
+            bytes(rt, front)?;
+            println!(rt; " changed {}", changed(rest))
+        }
+        None => println!(rt; " {count}"),
+    }
 }
 
 pub fn no(rt: &impl Print, e: Refusal) -> io::Result<()> {
@@ -90,7 +79,10 @@ pub fn refused(rt: &impl Print, e: Refusal, room: &[u8]) -> io::Result<()> {
 // What a writer answered, and the room that it was lent.
 pub fn wrote(rt: &impl Print, answer: Result<usize, Refusal>, room: &[u8]) -> io::Result<()> {
     match answer {
-        Ok(count) => println!(rt; "ok {}", Written { room, count }),
+        Ok(count) => {
+            print!(rt; "ok")?;
+            written(rt, room, count)
+        }
         Err(e) => refused(rt, e, room),
     }
 }

@@ -54,7 +54,7 @@ impl fmt::Display for Hex<'_> {
 
     ghost output = { λ h. Some (hex_text h.0.now) };
 
-    // A part at a time: a `write!` for each byte would take several times as long.
+    // A part at a time: a `write!` for each byte takes several times as long.
     fn fmt<W: fmt::Write>(&self, f: &mut fmt::Formatter<W>) -> fmt::Result {
         let mut text = [0u8; 64];
         for part in self.0.chunks(32) {
@@ -66,6 +66,22 @@ impl fmt::Display for Hex<'_> {
         }
         Ok(())
     }
+}
+
+// The digits of at most 2,048 bytes, in one write.
+fn write_part(rt: &impl Print, s: &[u8]) -> io::Result<()> {
+    let mut text = [0u8; 4096];
+    let n = spell(&s[..s.len().min(2048)], &mut text);
+    rt.write_all(&text[..n])
+}
+
+// Long bytes as hexadecimal digits: `print!` takes each letter by itself, which is several times as
+// long.
+pub fn write_hex(rt: &impl Print, s: &[u8]) -> io::Result<()> {
+    for part in s.chunks(2048) {
+        write_part(rt, part)?;
+    }
+    Ok(())
 }
 
 // Reads until the buffer is full or the input ends: how many bytes stand at its front. A read that
