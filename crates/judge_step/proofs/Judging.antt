@@ -82,13 +82,16 @@ module _ (d : D.Column) (ds : List D.Column) (s : List ℕ) where
   left_more (took n at) = first n at (read_at (read_value d) s at) refl
   left_more (stops e) = refl
 
--- none is left
-left_none : (s : List ℕ) (x : Read Needs) → Inside (length s) x → judge_left [] s x ≡ x
+-- none is left: behind a row so far, and behind any state
+left_none : (s : List ℕ) (n : Needs) (at : ℕ) → at ≤ length s → judge_left [] s (took n at) ≡ took n at
 unfolding read_values copied_out_row encode_row
-left_none s (took n at) i =
-    ap (map_read (λ vs. plus_needs n (needs_of [] vs))) (at_took (read_values []) s at [] 0 i.0 refl)
+left_none s n at i =
+    ap (map_read (λ vs. plus_needs n (needs_of [] vs))) (at_took (read_values []) s at [] 0 i refl)
     ∙ rw (add-zero at, zero_plus n)
-left_none s (stops e) i = refl
+
+left_ended : (s : List ℕ) (x : Read Needs) → Inside (length s) x → judge_left [] s x ≡ x
+left_ended s (took n at) i = left_none s n at i.0
+left_ended s (stops e) i = refl
 
 -- the whole row, from its place on
 left_all : (cs : List D.Column) (s : List ℕ) (at : ℕ) → judge_left cs s (took no_needs at) ≡ map_read (needs_of cs) (read_at (read_values cs) s at)
@@ -197,7 +200,7 @@ module _ (ys : List Column) (s : List ℕ) (at : ℕ) where
   -- behind the last turn
   pub judging_ends : (r : RowNeeds) → Judged n r → (b : List ℕ) → row_judged_told (Ok r) ≡ answer b
   judging_ends r z b =
-      sym (left_none s (row_judged_told (Ok r)) z.1)
+      sym (left_ended s (row_judged_told (Ok r)) z.1)
       ∙ (ap (λ (cs : List D.Column). judge_left cs s (row_judged_told (Ok r))) (sym (none_of b)) ∙ z.0 b)
     where
       none_of : (b : List ℕ) → left b n ≡ []

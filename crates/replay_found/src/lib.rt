@@ -4,7 +4,7 @@
 
 use bits::float::{Float32, Float64};
 use replay_say::say;
-use replay_say::say::TextOrder;
+use replay_say::say::{Bytes, TextOrder};
 use std::{fmt, io};
 use value_found::{Found, Stand};
 use value_kind::{Scalar, Span};
@@ -31,6 +31,62 @@ impl fmt::Display for ScalarWords {
 }
 
 // A part of some bytes, by its start and count, and its content.
+#[derive(Clone, Copy)]
+struct PartWords<'a> {
+    s: &'a [u8],
+    part: Span,
+}
+
+impl fmt::Display for PartWords<'_> {
+    fn fmt<W: fmt::Write>(&self, f: &mut fmt::Formatter<W>) -> fmt::Result {
+        let Span { start, count } = self.part;
+        write!(f, "{start} {count}")?;
+        let Some((_, behind)) = self.s.split_at_checked(start) else {
+            return Ok(());
+        };
+        match behind.split_at_checked(count) {
+            Some((content, _)) => write!(f, " {}", Bytes(content)),
+            None => Ok(()),
+        }
+    }
+}
+
+// A value that was read: from `s`, with the room that it was read into.
+#[derive(Clone, Copy)]
+pub struct Words<'a> {
+    pub found: Found,
+    pub s: &'a [u8],
+    pub room: &'a [u8],
+}
+
+impl Words<'_> {
+    // Content where it stands.
+    fn content<W: fmt::Write>(&self, f: &mut fmt::Formatter<W>, stand: Stand) -> fmt::Result {
+        match stand {
+            Stand::Input(part) => write!(f, "in {}", PartWords { s: self.s, part }),
+            Stand::Room(part) => write!(f, "out {}", PartWords { s: self.room, part }),
+        }
+    }
+}
+
+impl fmt::Display for Words<'_> {
+    fn fmt<W: fmt::Write>(&self, f: &mut fmt::Formatter<W>) -> fmt::Result {
+        match self.found {
+            Found::Null => f.write_str("null"),
+            Found::Scalar(v) => write!(f, "{}", ScalarWords(v)),
+            Found::Binary(stand) => {
+                write!(f, "binary ")?;
+                self.content(f, stand)
+            }
+            Found::String(stand) => {
+                write!(f, "string ")?;
+                self.content(f, stand)
+            }
+        }
+    }
+}
+
+// The same words, the bytes past `print!`, which is slow where they are many: first those of a part.
 fn show_part(rt: &impl Print, s: &[u8], part: Span) -> io::Result<()> {
     let Span { start, count } = part;
     print!(rt; "{start} {count}")?;
@@ -58,7 +114,7 @@ fn show_content(rt: &impl Print, stand: Stand, s: &[u8], room: &[u8]) -> io::Res
     }
 }
 
-// A value that was read: from `s`, with the room that it was read into.
+// The words of a value.
 pub fn show(rt: &impl Print, found: Found, s: &[u8], room: &[u8]) -> io::Result<()> {
     match found {
         Found::Null => print!(rt; "null"),
@@ -71,5 +127,98 @@ pub fn show(rt: &impl Print, found: Found, s: &[u8], room: &[u8]) -> io::Result<
             print!(rt; "string ")?;
             show_content(rt, stand, s, room)
         }
+    }
+}
+
+#[cfg(test)]
+mod tests {
+    use super::*;
+    use replay_say::say::Written;
+    use std::fmt::Write;
+    use std::test::Fail;
+
+    // A writer that takes what it expects, and nothing else.
+    #[derive(Drop)]
+    struct Expects<'a>(&'a [u8]);
+
+    impl fmt::Write for Expects<'_> {
+        fn write_str(&mut self, s: &str) -> fmt::Result {
+            self.0 = self.0.strip_prefix(s.as_bytes()).ok_or(fmt::Error)?;
+            Ok(())
+        }
+    }
+
+    #[test]
+    fn words_of_a_room() -> Result<(), Fail> {
+        let room = [0x01, 0xAB, 0xA5, 0x00];
+        let mut line = Expects(b"- 01ab 2 01ab changed 1, 0 - changed 3, 5");
+        write!(line, "{} {} ", Bytes(&[]), Bytes(&room[..2]))?;
+        write!(
+            line,
+            "{}, ",
+            Written {
+                room: &room,
+                count: 2
+            }
+        )?;
+        write!(
+            line,
+            "{}, ",
+            Written {
+                room: &room,
+                count: 0
+            }
+        )?;
+        write!(
+            line,
+            "{}",
+            Written {
+                room: &room,
+                count: 5
+            }
+        )?;
+        line.0
+            .is_empty()
+            .then_some(())
+            .ok_or("more words were expected")?;
+        Ok(())
+    }
+
+    #[test]
+    fn words_of_a_value() -> Result<(), Fail> {
+        let (s, room) = ([0x01, 0x02, 0x03], [0xFE, 0xFF]);
+        let part = Span { start: 1, count: 2 };
+        let past = Span { start: 1, count: 3 };
+        let cases: [(Found, &str); 6] = [
+            (Found::Null, "null"),
+            (Found::Scalar(Scalar::I16(-2)), "i16 -2"),
+            (Found::Binary(Stand::Input(part)), "binary in 1 2 0203"),
+            (
+                Found::String(Stand::Room(Span { start: 0, count: 2 })),
+                "string out 0 2 feff",
+            ),
+            (
+                Found::Binary(Stand::Input(Span { start: 3, count: 0 })),
+                "binary in 3 0 -",
+            ),
+            (Found::String(Stand::Room(past)), "string out 1 3"),
+        ];
+        for (found, words) in cases {
+            let mut line = Expects(words.as_bytes());
+            write!(
+                line,
+                "{}",
+                Words {
+                    found,
+                    s: &s,
+                    room: &room
+                }
+            )?;
+            line.0
+                .is_empty()
+                .then_some(())
+                .ok_or("more words were expected")?;
+        }
+        Ok(())
     }
 }

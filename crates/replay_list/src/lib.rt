@@ -1,5 +1,6 @@
-// The lists of a frame: a count in two bytes, then that many columns or values. A list is read into an
-// array of 1,024 places; a count above them is handed on as it is, and the call refuses it.
+// The lists of a frame: a count in two bytes, then that many columns or values. For a call that holds
+// them, a list is read into an array of 1,024 places; a count above them is handed on as it is, and the
+// call refuses it. For one that is lent them, it is read into as many places as there are.
 
 #![tactic(auto)]
 
@@ -11,8 +12,12 @@ use column_type::Column;
 use replay_say::fields::Fields;
 use value_kind::Value;
 
-// The places for a list: as many as a row may have.
-pub const PLACES: usize = 1024;
+// Places for a list that is lent: one more than a row may have, so that the call itself refuses a
+// longer one.
+pub const PLACES: usize = 1025;
+
+// The places for a list that is held: as many as a row may have.
+pub const HELD_PLACES: usize = 1024;
 
 // How many bytes a column has, and a value.
 const COLUMN: usize = 66;
@@ -37,7 +42,7 @@ fn records<T: Copy, F: Fn(&mut Fields) -> T>(mut list: Fields, read: F, places: 
 }
 
 // The columns of the list that a frame has next, as far as there are places: how many it says it has.
-pub fn columns(frame: &mut Fields, places: &mut [Column; PLACES]) -> usize
+pub fn held_columns(frame: &mut Fields, places: &mut [Column; HELD_PLACES]) -> usize
     ensures count { result ≡ from_le_bytes w16 (field 2 frame.old.rest.now) }
     ensures behind { frame.new.rest.now ≡ drop (result * 66) (drop 2 frame.old.rest.now) }
 {
@@ -48,7 +53,7 @@ pub fn columns(frame: &mut Fields, places: &mut [Column; PLACES]) -> usize
 }
 
 // The values of the list that a frame has next, likewise.
-pub fn values(frame: &mut Fields, places: &mut [Value; PLACES]) -> usize
+pub fn held_values(frame: &mut Fields, places: &mut [Value; HELD_PLACES]) -> usize
     ensures count { result ≡ from_le_bytes w16 (field 2 frame.old.rest.now) }
     ensures behind { frame.new.rest.now ≡ drop (result * 17) (drop 2 frame.old.rest.now) }
 {
@@ -56,4 +61,113 @@ pub fn values(frame: &mut Fields, places: &mut [Value; PLACES]) -> usize
     let list = frame.part(given * VALUE);
     records(list, replay_value::value, front(places, given));
     given
+}
+
+// The front of some places, with the records of a list.
+fn lent<'a, T: Copy, F: Fn(&mut Fields) -> T>(
+    list: Fields,
+    stated: usize,
+    read: F,
+    places: &'a mut [T],
+) -> &'a [T]
+    requires { F.IsAlwaysCallable read }
+    ensures { length result.now ≤ length places.old }
+{
+    let places = front(places, stated);
+    records(list, read, places);
+    places
+}
+
+// The columns of the list that a frame has next: as many as there are places for.
+pub fn columns<'a>(frame: &mut Fields, places: &'a mut [Column]) -> &'a [Column]
+    ensures { length result.now ≤ length places.old }
+{
+    let stated = usize::from(frame.two());
+    let list = frame.part(stated * COLUMN);
+    lent(list, stated, replay_type::column, places)
+}
+
+// The values of the list that a frame has next, likewise.
+pub fn values<'a>(frame: &mut Fields, places: &'a mut [Value]) -> &'a [Value]
+    ensures { length result.now ≤ length places.old }
+{
+    let stated = usize::from(frame.two());
+    let list = frame.part(stated * VALUE);
+    lent(list, stated, replay_value::value, places)
+}
+
+#[cfg(test)]
+mod tests {
+    use super::*;
+    use column_type::TypeId;
+    use std::test::Fail;
+    use value_kind::Scalar;
+
+    fn so(fact: bool, words: &'static str) -> Result<(), &'static str> {
+        fact.then_some(()).ok_or(words)
+    }
+
+    // Two columns, and a byte behind them.
+    #[test]
+    fn columns_as_far_as_places() -> Result<(), Fail> {
+        let mut frame = [0u8; 135];
+        frame[0] = 2;
+        frame[2] = 0x38;
+        frame[68] = 0x26;
+        frame[69] = 4;
+        frame[134] = 0xEE;
+        let mut places = [column_type::plain(TypeId::Udt, 0); 3];
+        let mut fields = Fields::new(&frame);
+        let both = columns(&mut fields, &mut places);
+        let told =
+            matches!(both, [a, b] if u8::from(a.ty) == 0x38 && u8::from(b.ty) == 0x26 && b.length == 4);
+        so(told, "both columns")?;
+        so(fields.byte() == 0xEE, "the byte behind them")?;
+        let mut place = [column_type::plain(TypeId::Udt, 0)];
+        let mut fields = Fields::new(&frame);
+        let first = columns(&mut fields, &mut place);
+        so(
+            matches!(first, [a] if u8::from(a.ty) == 0x38),
+            "the first column",
+        )?;
+        so(fields.byte() == 0xEE, "the byte behind both")?;
+        Ok(())
+    }
+
+    // Three values, and a byte behind them; in all places, and in two.
+    #[test]
+    fn values_as_far_as_places() -> Result<(), Fail> {
+        let mut frame = [0u8; 54];
+        frame[0] = 3;
+        frame[2] = 2;
+        frame[3] = 7;
+        frame[19] = 2;
+        frame[20] = 8;
+        frame[36] = 2;
+        frame[37] = 9;
+        frame[53] = 0xEE;
+        let mut places = [Value::Null; PLACES];
+        let mut fields = Fields::new(&frame);
+        let all = values(&mut fields, &mut places);
+        let told = matches!(
+            all,
+            [
+                Value::Scalar(Scalar::U8(7)),
+                Value::Scalar(Scalar::U8(8)),
+                Value::Scalar(Scalar::U8(9))
+            ]
+        );
+        so(told, "three values")?;
+        so(fields.byte() == 0xEE, "the byte behind them")?;
+        let mut two = [Value::Null; 2];
+        let mut fields = Fields::new(&frame);
+        let two = values(&mut fields, &mut two);
+        let told = matches!(
+            two,
+            [Value::Scalar(Scalar::U8(7)), Value::Scalar(Scalar::U8(8))]
+        );
+        so(told, "two values")?;
+        so(fields.byte() == 0xEE, "the byte behind all")?;
+        Ok(())
+    }
 }

@@ -4,7 +4,7 @@
 
 use column_type::TypeId;
 use cursor::Cursor;
-use replay_list::PLACES;
+use replay_list::HELD_PLACES;
 use replay_say::fields::Fields;
 use replay_say::say;
 use std::io;
@@ -12,10 +12,10 @@ use value_kind::Value;
 
 pub fn row_write(rt: &impl Print, mut frame: Fields, room: &mut [u8]) -> io::Result<()> {
     let room = frame.room(room);
-    let mut cols = [column_type::plain(TypeId::Udt, 0); PLACES];
-    let count = replay_list::columns(&mut frame, &mut cols);
-    let mut values = [Value::Null; PLACES];
-    let given = replay_list::values(&mut frame, &mut values);
+    let mut cols = [column_type::plain(TypeId::Udt, 0); HELD_PLACES];
+    let count = replay_list::held_columns(&mut frame, &mut cols);
+    let mut values = [Value::Null; HELD_PLACES];
+    let given = replay_list::held_values(&mut frame, &mut values);
     let answer = held::write_held_row(cols, count, values, given, frame.input(), room);
     say::wrote(rt, answer, room)
 }
@@ -23,8 +23,8 @@ pub fn row_write(rt: &impl Print, mut frame: Fields, room: &mut [u8]) -> io::Res
 pub fn normal(rt: &impl Print, mut frame: Fields, room: &mut [u8]) -> io::Result<()> {
     let from = Cursor { at: frame.place() };
     let room = frame.room(room);
-    let mut cols = [column_type::plain(TypeId::Udt, 0); PLACES];
-    let count = replay_list::columns(&mut frame, &mut cols);
+    let mut cols = [column_type::plain(TypeId::Udt, 0); HELD_PLACES];
+    let count = replay_list::held_columns(&mut frame, &mut cols);
     match held_normal::normal_held_row(cols, count, frame.input(), from, room) {
         Ok((n, next)) => {
             print!(rt; "ok {}", next.at)?;

@@ -4,7 +4,7 @@
 
 use column_type::{Column, TypeId};
 use cursor::Cursor;
-use replay_list::PLACES;
+use replay_list::HELD_PLACES;
 use replay_say::fields::Fields;
 use replay_say::say;
 use row_place::RowPlace;
@@ -13,7 +13,7 @@ use std::io;
 // The values from a place on, in turn. It hands back how many bytes of the room they take.
 fn show_values(
     rt: &impl Print,
-    cols: &[Column; PLACES],
+    cols: &[Column; HELD_PLACES],
     count: usize,
     first: RowPlace,
     s: &[u8],
@@ -34,7 +34,7 @@ fn show_values(
 // The row at a place, behind the columns that are to be described.
 pub fn say_row(
     rt: &impl Print,
-    cols: &[Column; PLACES],
+    cols: &[Column; HELD_PLACES],
     count: usize,
     described: &[Column],
     s: &[u8],
@@ -57,7 +57,7 @@ pub fn say_row(
 pub fn row_read(rt: &impl Print, mut frame: Fields, room: &mut [u8]) -> io::Result<()> {
     let from = Cursor { at: frame.place() };
     let room = frame.room(room);
-    let mut cols = [column_type::plain(TypeId::Udt, 0); PLACES];
-    let count = replay_list::columns(&mut frame, &mut cols);
+    let mut cols = [column_type::plain(TypeId::Udt, 0); HELD_PLACES];
+    let count = replay_list::held_columns(&mut frame, &mut cols);
     say_row(rt, &cols, count, &[], frame.input(), from, room)
 }

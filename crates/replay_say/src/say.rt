@@ -2,12 +2,13 @@
 ghost use Rattle.std.specs.Prelude.{◌≡◌, length};
 ghost use Rattle.replay_say.specs.Room.{filled, changed_in};
 
+pub use crate::shown::{Bytes, Written};
 use std::{fmt, io};
 use wire::{Cursor, Guid, Refusal};
 
 const FILLER: u8 = 0xA5;
 
-// A word of bytes, `-` for none.
+// The word `Bytes`, past `print!`, which is slow where the bytes are many.
 pub fn bytes(rt: &impl Print, s: &[u8]) -> io::Result<()> {
     if s.is_empty() {
         return print!(rt; "-");
@@ -37,14 +38,13 @@ pub fn fill(room: &mut [u8])
 }
 
 // How many bytes are not the filler.
-fn changed(room: &[u8]) -> usize
+pub(crate) fn changed(room: &[u8]) -> usize
     ensures { result ≡ changed_in room.now }
 {
     room.iter().filter(|b| **b != FILLER).count()
 }
 
-// The end of a line: the bytes at the front of the room that a call wrote, and how many behind them
-// changed.
+// The end of a line: the words `Written`, the bytes past `print!`.
 pub fn written(rt: &impl Print, room: &[u8], count: usize) -> io::Result<()> {
     match room.split_at_checked(count) {
         Some((front, rest)) => {
