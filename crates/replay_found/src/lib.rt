@@ -135,7 +135,6 @@ mod tests {
     use super::*;
     use replay_say::say::Written;
     use std::fmt::Write;
-    use std::test::Fail;
 
     // A writer that takes what it expects, and nothing else.
     #[derive(Drop)]
@@ -148,77 +147,46 @@ mod tests {
         }
     }
 
-    #[test]
-    fn words_of_a_room() -> Result<(), Fail> {
-        let room = [0x01, 0xAB, 0xA5, 0x00];
-        let mut line = Expects(b"- 01ab 2 01ab changed 1, 0 - changed 3, 5");
-        write!(line, "{} {} ", Bytes(&[]), Bytes(&room[..2]))?;
-        write!(
-            line,
-            "{}, ",
-            Written {
-                room: &room,
-                count: 2
-            }
-        )?;
-        write!(
-            line,
-            "{}, ",
-            Written {
-                room: &room,
-                count: 0
-            }
-        )?;
-        write!(
-            line,
-            "{}",
-            Written {
-                room: &room,
-                count: 5
-            }
-        )?;
-        line.0
-            .is_empty()
-            .then_some(())
-            .ok_or("more words were expected")?;
-        Ok(())
+    // What is shown is these words, whole.
+    fn says<T: fmt::Display + Copy>(shown: T, words: &str) -> bool {
+        let mut line = Expects(words.as_bytes());
+        write!(line, "{shown}").is_ok() && line.0.is_empty()
     }
 
     #[test]
-    fn words_of_a_value() -> Result<(), Fail> {
-        let (s, room) = ([0x01, 0x02, 0x03], [0xFE, 0xFF]);
-        let part = Span { start: 1, count: 2 };
-        let past = Span { start: 1, count: 3 };
-        let cases: [(Found, &str); 6] = [
+    fn words_of_a_room(rt: HostRuntime) {
+        let room = &[0x01, 0xAB, 0xA5, 0x00];
+        assert!(rt; says(Bytes(&[]), "-"));
+        assert!(rt; says(Bytes(&room[..2]), "01ab"));
+        for (count, words) in [(2, "2 01ab changed 1"), (0, "0 - changed 3"), (5, "5")] {
+            assert!(rt; says(Written { room, count }, words), "{words}");
+        }
+    }
+
+    #[test]
+    fn words_of_a_value(rt: HostRuntime) {
+        let (s, room) = (&[0x01, 0x02, 0x03], &[0xFE, 0xFF]);
+        let two = Span { start: 1, count: 2 };
+        let cases = [
             (Found::Null, "null"),
             (Found::Scalar(Scalar::I16(-2)), "i16 -2"),
-            (Found::Binary(Stand::Input(part)), "binary in 1 2 0203"),
-            (
-                Found::String(Stand::Room(Span { start: 0, count: 2 })),
-                "string out 0 2 feff",
-            ),
+            (Found::Binary(Stand::Input(two)), "binary in 1 2 0203"),
             (
                 Found::Binary(Stand::Input(Span { start: 3, count: 0 })),
                 "binary in 3 0 -",
             ),
-            (Found::String(Stand::Room(past)), "string out 1 3"),
+            (
+                Found::String(Stand::Room(Span { start: 0, count: 2 })),
+                "string out 0 2 feff",
+            ),
+            (Found::String(Stand::Room(two)), "string out 1 2"),
+            (
+                Found::String(Stand::Room(Span { start: 9, count: 0 })),
+                "string out 9 0",
+            ),
         ];
         for (found, words) in cases {
-            let mut line = Expects(words.as_bytes());
-            write!(
-                line,
-                "{}",
-                Words {
-                    found,
-                    s: &s,
-                    room: &room
-                }
-            )?;
-            line.0
-                .is_empty()
-                .then_some(())
-                .ok_or("more words were expected")?;
+            assert!(rt; says(Words { found, s, room }, words), "{words}");
         }
-        Ok(())
     }
 }

@@ -4,7 +4,7 @@
 
 #![tactic(auto)]
 
-ghost use Rattle.std.specs.Prelude.{◌≡◌, ◌≤◌, ◌*◌, length, drop};
+ghost use Rattle.std.specs.Prelude.{◌≡◌, ◌≤◌, ◌*◌, length, drop, min};
 ghost use Rattle.std.specs.Int.{from_le_bytes, w16};
 ghost use Rattle.replay_say.specs.Fields.{field};
 
@@ -26,7 +26,7 @@ const VALUE: usize = 17;
 
 // The places for so many records: all where there are not as many.
 fn front<'a, T>(places: &'a mut [T], count: usize) -> &'a mut [T]
-    ensures { length result.now ≤ length places.old }
+    ensures { length result.now ≡ min count (length places.old) }
 {
     let n = count.min(places.len());
     &mut places[..n]
@@ -71,7 +71,7 @@ fn lent<'a, T: Copy, F: Fn(&mut Fields) -> T>(
     places: &'a mut [T],
 ) -> &'a [T]
     requires { F.IsAlwaysCallable read }
-    ensures { length result.now ≤ length places.old }
+    ensures { length result.now ≡ min stated (length places.old) }
 {
     let places = front(places, stated);
     records(list, read, places);
@@ -80,7 +80,9 @@ fn lent<'a, T: Copy, F: Fn(&mut Fields) -> T>(
 
 // The columns of the list that a frame has next: as many as there are places for.
 pub fn columns<'a>(frame: &mut Fields, places: &'a mut [Column]) -> &'a [Column]
-    ensures { length result.now ≤ length places.old }
+    ensures within { length result.now ≤ length places.old }
+    ensures count { length result.now ≡ min (from_le_bytes w16 (field 2 frame.old.rest.now)) (length places.old) }
+    ensures behind { frame.new.rest.now ≡ drop (from_le_bytes w16 (field 2 frame.old.rest.now) * 66) (drop 2 frame.old.rest.now) }
 {
     let stated = usize::from(frame.two());
     let list = frame.part(stated * COLUMN);
@@ -89,7 +91,9 @@ pub fn columns<'a>(frame: &mut Fields, places: &'a mut [Column]) -> &'a [Column]
 
 // The values of the list that a frame has next, likewise.
 pub fn values<'a>(frame: &mut Fields, places: &'a mut [Value]) -> &'a [Value]
-    ensures { length result.now ≤ length places.old }
+    ensures within { length result.now ≤ length places.old }
+    ensures count { length result.now ≡ min (from_le_bytes w16 (field 2 frame.old.rest.now)) (length places.old) }
+    ensures behind { frame.new.rest.now ≡ drop (from_le_bytes w16 (field 2 frame.old.rest.now) * 17) (drop 2 frame.old.rest.now) }
 {
     let stated = usize::from(frame.two());
     let list = frame.part(stated * VALUE);
@@ -100,16 +104,11 @@ pub fn values<'a>(frame: &mut Fields, places: &'a mut [Value]) -> &'a [Value]
 mod tests {
     use super::*;
     use column_type::TypeId;
-    use std::test::Fail;
     use value_kind::Scalar;
-
-    fn so(fact: bool, words: &'static str) -> Result<(), &'static str> {
-        fact.then_some(()).ok_or(words)
-    }
 
     // Two columns, and a byte behind them.
     #[test]
-    fn columns_as_far_as_places() -> Result<(), Fail> {
+    fn columns_as_far_as_places(rt: HostRuntime) {
         let mut frame = [0u8; 135];
         frame[0] = 2;
         frame[2] = 0x38;
@@ -119,55 +118,50 @@ mod tests {
         let mut places = [column_type::plain(TypeId::Udt, 0); 3];
         let mut fields = Fields::new(&frame);
         let both = columns(&mut fields, &mut places);
-        let told =
-            matches!(both, [a, b] if u8::from(a.ty) == 0x38 && u8::from(b.ty) == 0x26 && b.length == 4);
-        so(told, "both columns")?;
-        so(fields.byte() == 0xEE, "the byte behind them")?;
+        assert!(rt;
+            matches!(both, [a, b] if u8::from(a.ty) == 0x38 && u8::from(b.ty) == 0x26 && b.length == 4)
+        );
+        assert_eq!(rt; fields.byte(), 0xEE);
         let mut place = [column_type::plain(TypeId::Udt, 0)];
         let mut fields = Fields::new(&frame);
         let first = columns(&mut fields, &mut place);
-        so(
-            matches!(first, [a] if u8::from(a.ty) == 0x38),
-            "the first column",
-        )?;
-        so(fields.byte() == 0xEE, "the byte behind both")?;
-        Ok(())
+        assert!(rt; matches!(first, [a] if u8::from(a.ty) == 0x38));
+        assert_eq!(rt; fields.byte(), 0xEE);
     }
 
     // Three values, and a byte behind them; in all places, and in two.
     #[test]
-    fn values_as_far_as_places() -> Result<(), Fail> {
+    fn values_as_far_as_places(rt: HostRuntime) {
         let mut frame = [0u8; 54];
         frame[0] = 3;
-        frame[2] = 2;
-        frame[3] = 7;
-        frame[19] = 2;
-        frame[20] = 8;
-        frame[36] = 2;
-        frame[37] = 9;
         frame[53] = 0xEE;
+        for (i, n) in [(2, 7), (19, 8), (36, 9)] {
+            frame[i] = 2;
+            frame[i + 1] = n;
+        }
         let mut places = [Value::Null; PLACES];
         let mut fields = Fields::new(&frame);
         let all = values(&mut fields, &mut places);
-        let told = matches!(
-            all,
-            [
-                Value::Scalar(Scalar::U8(7)),
-                Value::Scalar(Scalar::U8(8)),
-                Value::Scalar(Scalar::U8(9))
-            ]
+        assert!(rt;
+            matches!(
+                all,
+                [
+                    Value::Scalar(Scalar::U8(7)),
+                    Value::Scalar(Scalar::U8(8)),
+                    Value::Scalar(Scalar::U8(9))
+                ]
+            )
         );
-        so(told, "three values")?;
-        so(fields.byte() == 0xEE, "the byte behind them")?;
-        let mut two = [Value::Null; 2];
+        assert_eq!(rt; fields.byte(), 0xEE);
+        let mut places = [Value::Null; 2];
         let mut fields = Fields::new(&frame);
-        let two = values(&mut fields, &mut two);
-        let told = matches!(
-            two,
-            [Value::Scalar(Scalar::U8(7)), Value::Scalar(Scalar::U8(8))]
+        let two = values(&mut fields, &mut places);
+        assert!(rt;
+            matches!(
+                two,
+                [Value::Scalar(Scalar::U8(7)), Value::Scalar(Scalar::U8(8))]
+            )
         );
-        so(told, "two values")?;
-        so(fields.byte() == 0xEE, "the byte behind all")?;
-        Ok(())
+        assert_eq!(rt; fields.byte(), 0xEE);
     }
 }
